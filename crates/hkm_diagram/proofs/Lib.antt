@@ -1,0 +1,3 @@
+mod Below
+mod Identity
+mod Seen

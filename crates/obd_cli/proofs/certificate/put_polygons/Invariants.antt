@@ -1,0 +1,8 @@
+use Rattle.std.proofs.Common.{◌≡◌, ◌++◌, codes, take}
+use Rattle.obd_cli.specs.Line.{lines}
+use Rattle.obd_cli.specs.Text.{polygon_words}
+use Rattle.obd_cli.proofs.certificate.put_polygons.Given as goal
+
+-- the polygons so far were appended
+abbrev pub invariant-loop-labels : goal.invariant-loop-labels
+invariant-loop-labels l = l.text ≡ l.initial.text ++ lines (codes "polygon") polygon_words (take l.labels-index l.polygons)

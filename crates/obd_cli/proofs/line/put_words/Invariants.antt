@@ -1,0 +1,7 @@
+use Rattle.std.proofs.Common.{◌≡◌, ◌++◌, map, take}
+use Rattle.obd_cli.specs.Line.{spaced}
+use Rattle.obd_cli.proofs.line.put_words.Given as goal
+
+-- the words so far were appended
+abbrev pub invariant-loop-word : goal.invariant-loop-word
+invariant-loop-word g l = l.text ≡ l.initial.text ++ spaced (map g.T.Word.word (take l.word-index l.words))

@@ -1,0 +1,237 @@
+// The certificate, version 1, field by field, and its text.
+ghost use Rattle.std.specs.Prelude.{◌≡◌, ◌++◌, List, ℕ, [], ◌∷◌, decimal, map, OnOk, IfOk, codes, length};
+ghost use Rattle.std.specs.Fmt.{signed_decimal};
+ghost use Rattle.obd_cli.specs.Line.{line, lines, spaced};
+ghost use Rattle.obd_cli.specs.Text.{certificate_text, cross_text, drawing_text, finger_words, monodromy_text, outcome_text, page_text, path_words, pivot_words, polygon_words, slide_words, strand_lines, twist_words, verdict_line};
+
+use crate::line::{
+    Entry, Word, put_count, put_line, put_list, put_number, put_numbered, put_signed, put_words,
+};
+use obd_base::{ArcNo, Exit, GenNo, Items, Name, NoMemory, SideNo, StrandNo, Text};
+use std::alloc::Global;
+
+/// One crossing of a curve with a label: the occurrence through which the curve leaves, and the place among
+/// the curve's own points of the label, from the start of occurrence 0.
+#[derive(Drop)]
+pub struct Cross {
+    pub label: Name,
+    pub occurrence: u8,
+    pub place: u32,
+}
+
+/// A curve by its name and its crossings in order.
+#[derive(Drop)]
+pub struct NamedPath {
+    pub name: Name,
+    pub path: Items<Cross>,
+}
+
+/// An entry of the twist word: a curve by its name, and the power, which isn't 0.
+#[derive(Drop)]
+pub struct NamedTwist {
+    pub name: Name,
+    pub power: i32,
+}
+
+/// A finger move: the chord of a strand that is pushed, and the segment of a side into which it goes.
+#[derive(Clone, Copy, Debug, PartialEq, Eq)]
+pub struct Finger {
+    pub strand: StrandNo,
+    pub chord: u32,
+    pub side: SideNo,
+    pub segment: u32,
+}
+
+/// A pivot of the elimination: a column, and the least row of what is left of it.
+#[derive(Clone, Copy, Debug, PartialEq, Eq)]
+pub struct Pivot {
+    pub column: u32,
+    pub row: u32,
+}
+
+/// Why the contact class is zero or isn't.
+#[derive(Drop)]
+pub enum Verdict {
+    /// The columns whose sum is the contact generator alone: the class is zero.
+    Chain(Items<u32>),
+    /// The rows of a functional that is one on the contact generator and even on each column: it is nonzero.
+    Functional(Items<u32>),
+}
+
+/// The fields of a certificate, in the order of its lines.
+#[derive(Drop)]
+pub struct Certificate {
+    pub version: u32,
+    pub polygons: Items<Items<Name>>,
+    pub curves: Items<NamedPath>,
+    pub slides: Items<SideNo>,
+    pub twists: Items<NamedTwist>,
+    pub seams: Items<Name>,
+    pub basis: Items<ArcNo>,
+    pub strands: Items<Items<Exit>>,
+    pub fingers: Items<Finger>,
+    pub finals: Items<Items<Exit>>,
+    pub generators: u32,
+    pub contact: GenNo,
+    pub points: Items<u32>,
+    pub pivots: Items<Pivot>,
+    pub rank: u32,
+    pub homology: i32,
+    pub verdict: Verdict,
+}
+
+impl Word for Cross {
+    ghost word = { cross_text };
+
+    fn put_word(&self, text: &mut Text) -> Result<(), NoMemory> {
+        self.label.put_word(text)?;
+        text.put(":")?;
+        text.put_number(u64::from(self.occurrence))?;
+        text.put(":")?;
+        self.place.put_word(text)
+    }
+}
+
+impl Entry for NamedPath {
+    ghost words = { path_words };
+
+    fn put_entry(&self, text: &mut Text) -> Result<(), NoMemory> {
+        text.put(" ")?;
+        self.name.put_word(text)?;
+        put_words(text, self.path.as_slice())
+    }
+}
+
+impl Entry for SideNo {
+    ghost words = { slide_words };
+
+    fn put_entry(&self, text: &mut Text) -> Result<(), NoMemory> {
+        text.put(" ")?;
+        self.put_word(text)
+    }
+}
+
+impl Entry for NamedTwist {
+    ghost words = { twist_words };
+
+    fn put_entry(&self, text: &mut Text) -> Result<(), NoMemory> {
+        text.put(" ")?;
+        self.name.put_word(text)?;
+        text.put(" ")?;
+        text.put_signed(i64::from(self.power))
+    }
+}
+
+impl Entry for Finger {
+    ghost words = { finger_words };
+
+    fn put_entry(&self, text: &mut Text) -> Result<(), NoMemory> {
+        put_words(
+            text,
+            &[
+                self.strand.number(),
+                self.chord,
+                self.side.number(),
+                self.segment,
+            ],
+        )
+    }
+}
+
+impl Entry for Pivot {
+    ghost words = { pivot_words };
+
+    fn put_entry(&self, text: &mut Text) -> Result<(), NoMemory> {
+        put_words(text, &[self.column, self.row])
+    }
+}
+
+// A line for each strand, `strand` or `final`, with the strand's number and its exits.
+#[tactic(auto, unfolding(crate::specs::Line::lines))]
+fn put_strands(text: &mut Text, kind: &str, strands: &[Items<Exit>]) -> Result<(), NoMemory>
+    ensures { OnOk result (text.new ≡ text.old ++ strand_lines kind.now strands.now) }
+{
+    for (number, exits) in strands.iter().enumerate() {
+        put_numbered(text, kind, number as u64, exits.as_slice())?;
+    }
+    Ok(())
+}
+
+// A line for each polygon, with its labels.
+#[tactic(auto, unfolding(crate::specs::Line::lines))]
+fn put_polygons(text: &mut Text, polygons: &[Items<Name>]) -> Result<(), NoMemory>
+    ensures { OnOk result (text.new ≡ text.old ++ lines (codes "polygon") polygon_words polygons.now) }
+{
+    for labels in polygons {
+        put_line(text, "polygon", labels.as_slice())?;
+    }
+    Ok(())
+}
+
+// The lines of the version and the polygons.
+#[tactic(auto, unfolding(crate::specs::Line::listed))]
+fn put_page(text: &mut Text, certificate: &Certificate) -> Result<(), NoMemory>
+    ensures { OnOk result (text.new ≡ text.old ++ page_text certificate.now) }
+{
+    let polygons = certificate.polygons.as_slice();
+    put_number(text, "contact certificate", certificate.version)?;
+    put_count(text, "polygons", polygons.len() as u64)?;
+    put_polygons(text, polygons)
+}
+
+// The lines of the curves, the slides and the twists.
+fn put_monodromy(text: &mut Text, certificate: &Certificate) -> Result<(), NoMemory>
+    ensures { OnOk result (text.new ≡ text.old ++ monodromy_text certificate.now) }
+{
+    put_list(text, "curves", "curve", &certificate.curves)?;
+    put_list(text, "slides", "slide", &certificate.slides)?;
+    put_list(text, "twists", "twist", &certificate.twists)
+}
+
+// The lines from the seams to the contact generator.
+fn put_drawing(text: &mut Text, certificate: &Certificate) -> Result<(), NoMemory>
+    ensures { OnOk result (text.new ≡ text.old ++ drawing_text certificate.now) }
+{
+    let seams = certificate.seams.as_slice();
+    put_numbered(text, "seams", seams.len() as u64, seams)?;
+    put_line(text, "basis", certificate.basis.as_slice())?;
+    put_strands(text, "strand", certificate.strands.as_slice())?;
+    put_list(text, "fingers", "finger", &certificate.fingers)?;
+    put_strands(text, "final", certificate.finals.as_slice())?;
+    put_number(text, "generators", certificate.generators)?;
+    let contact = u64::from(certificate.contact.number());
+    put_numbered(text, "contact", contact, certificate.points.as_slice())
+}
+
+// The line `zero` or `nonzero`.
+fn put_verdict(text: &mut Text, verdict: &Verdict) -> Result<(), NoMemory>
+    ensures { OnOk result (text.new ≡ text.old ++ verdict_line verdict.now) }
+{
+    match verdict {
+        Verdict::Chain(columns) => put_line(text, "zero", columns.as_slice()),
+        Verdict::Functional(rows) => put_line(text, "nonzero", rows.as_slice()),
+    }
+}
+
+// The lines from the pivots to the end.
+fn put_outcome(text: &mut Text, certificate: &Certificate) -> Result<(), NoMemory>
+    ensures { OnOk result (text.new ≡ text.old ++ outcome_text certificate.now) }
+{
+    put_list(text, "pivots", "pivot", &certificate.pivots)?;
+    put_number(text, "rank", certificate.rank)?;
+    put_signed(text, "homology", certificate.homology)?;
+    put_verdict(text, &certificate.verdict)?;
+    put_line::<u32>(text, "end", &[])
+}
+
+/// The text of a certificate: one line after another. Linear in the text.
+pub(crate) fn print(alloc: Global, certificate: &Certificate) -> Result<Text, NoMemory>
+    ensures { IfOk result (λ text. text ≡ certificate_text certificate.now) }
+{
+    let mut text = Text::new(alloc);
+    put_page(&mut text, certificate)?;
+    put_monodromy(&mut text, certificate)?;
+    put_drawing(&mut text, certificate)?;
+    put_outcome(&mut text, certificate)?;
+    Ok(text)
+}

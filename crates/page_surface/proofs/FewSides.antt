@@ -1,0 +1,120 @@
+-- A page has at most 48 sides, since it has at most 24 labels and each stands twice.
+use Rattle.std.proofs.Common.{◌≡◌, ℕ, suc, ◌*◌, ◌≤◌, Bool, true, false, cond, eqb, ltb, not, List, [], ◌∷◌, length, Option, Some, None, option_map, refl, sym, arith, inl, inr}
+use Rattle.std.specs.List.{list_any, sum_by, count_by, find}
+use Rattle.std.specs.Str.{bytes_eq}
+use Rattle.std.proofs.lemmas.Bool.{cases_Bool, false≢true, ltb-false, eqb-true}
+use Rattle.std.proofs.lemmas.List.Sums.{sum_by-cons}
+use Rattle.std.proofs.lemmas.List.Folds.{list_any-append}
+use Rattle.std.proofs.lemmas.Slice.Eq.{bytes_eq-Decides}
+use Rattle.page_surface.specs.declared.refusal.PageRefusal.{PageRefusal}
+use Rattle.page_surface.specs.declared.refusal.PageRefusal.TheVariants.{TooManyLabels, LabelCount}
+use Rattle.page_surface.specs.Labels.{Label, with_label, with_labels, labels_of, all_sides, occurrences_of}
+use Rattle.page_surface.specs.Page.{IsPage, when, first_of, refusals}
+
+-- the label stands among the others
+abbrev pub IsAmong : List Label → Label → Type 0
+IsAmong labels label = list_any (bytes_eq label) labels ≡ true
+
+same_bytes : (xs : Label) → bytes_eq xs xs ≡ true
+same_bytes xs = (bytes_eq-Decides xs xs).1 refl
+
+either_way : (xs ys : Label) → bytes_eq xs ys ≡ true → bytes_eq ys xs ≡ true
+either_way xs ys e = (bytes_eq-Decides ys xs).1 (sym ((bytes_eq-Decides xs ys).0 e))
+
+-- a label stays among the labels when one more is read
+among_with_label : (labels : List Label) (label more : Label) → IsAmong labels label → IsAmong (with_label labels more) label
+among_with_label labels label more among = elim (cases_Bool (list_any (bytes_eq more) labels)) [
+  | inl is ↦ rw is among
+  | inr is ↦ rw (is, list_any-append (bytes_eq label) labels (more ∷ []), among) refl
+]
+
+-- a label that is read is among the labels
+label_among_with_label : (labels : List Label) (label : Label) → IsAmong (with_label labels label) label
+label_among_with_label labels label = elim (cases_Bool (list_any (bytes_eq label) labels)) [
+  | inl is ↦ rw is is
+  | inr is ↦ rw (is, list_any-append (bytes_eq label) labels (label ∷ []), is, same_bytes label) refl
+]
+
+among_with_labels : (sides labels : List Label) (label : Label) → IsAmong labels label → IsAmong (with_labels labels sides) label
+among_with_labels [] labels label among = among
+among_with_labels (side ∷ sides) labels label among = among_with_labels sides (with_label labels side) label (among_with_label labels label side among)
+
+-- each of some sides has its label among the labels
+abbrev pub AreAmong : List Label → List Label → Type 0
+AreAmong labels [] = Unit {0}
+AreAmong labels (side ∷ sides) = IsAmong labels side × AreAmong labels sides
+
+pub sides_among_with_labels : (sides labels : List Label) → AreAmong (with_labels labels sides) sides
+sides_among_with_labels [] labels = tt
+sides_among_with_labels (side ∷ sides) labels =
+    (among_with_labels sides (with_label labels side) side (label_among_with_label labels side), sides_among_with_labels sides (with_label labels side))
+
+-- one side more doesn't lower the count
+at_least : (labels : List Label) (side : Label) (sides : List Label)
+    → sum_by (λ label. count_by (bytes_eq label) sides) labels ≤ sum_by (λ label. count_by (bytes_eq label) (side ∷ sides)) labels
+at_least [] side sides = omega arith
+at_least (label ∷ labels) side sides =
+    omega (
+      arith,
+      at_least labels side sides,
+      sum_by-cons (λ label. count_by (bytes_eq label) sides) label labels,
+      sum_by-cons (λ label. count_by (bytes_eq label) (side ∷ sides)) label labels,
+      sum_by-cons (λ x. cond (bytes_eq label x) 1 0) side sides,
+    )
+
+-- one side more, whose label is among these, is counted at least once more
+counted_side : (labels : List Label) (side : Label) (sides : List Label) → IsAmong labels side
+    → suc (sum_by (λ label. count_by (bytes_eq label) sides) labels) ≤ sum_by (λ label. count_by (bytes_eq label) (side ∷ sides)) labels
+counted_side [] side sides among = absurd (false≢true among)
+counted_side (label ∷ labels) side sides among =
+    let rest = at_least labels side sides in
+    let here = sum_by-cons (λ label. count_by (bytes_eq label) sides) label labels in
+    let there = sum_by-cons (λ label. count_by (bytes_eq label) (side ∷ sides)) label labels in
+    let split = sum_by-cons (λ x. cond (bytes_eq label x) 1 0) side sides in
+    elim (cases_Bool (bytes_eq side label)) [
+      | inl same ↦ (let one : cond {A = ℕ} (bytes_eq label side) 1 0 ≡ 1 = rw (either_way side label same) refl in omega (arith, rest, here, there, split, one))
+      | inr other ↦ (let more = counted_side labels side sides (rw other at among) in omega (arith, more, here, there, split))
+    ]
+
+-- sides whose labels are among these are at most as many as the occurrences of these
+sides_counted : (sides labels : List Label) → AreAmong labels sides → length sides ≤ sum_by (λ label. count_by (bytes_eq label) sides) labels
+sides_counted [] labels among = omega arith
+sides_counted (side ∷ sides) labels among = omega (arith, counted_side labels side sides among.0, sides_counted sides labels among.1)
+
+-- labels of which none stands another number of times than twice
+twice_each : (f : Label → ℕ) (labels : List Label) → find (λ label. not (eqb (f label) 2)) labels ≡ None → sum_by f labels ≡ 2 * length labels
+twice_each f [] none = refl
+twice_each f (label ∷ labels) none = elim (cases_Bool (eqb (f label) 2)) [
+  | inl two ↦ (let rest = twice_each f labels (rw two at none) in let is : f label ≡ 2 = eqb-true (f label) 2 two in omega (arith, rest, is, sum_by-cons f label labels))
+  | inr other ↦ absurd (let bad = rw other at none in cc)
+]
+
+-- none of these refuses
+abbrev pub NoneOf : List (Option PageRefusal) → Type 0
+NoneOf [] = Unit {0}
+NoneOf (refusal ∷ rest) = (refusal ≡ None) × NoneOf rest
+
+-- where there is no first refusal, none of the rules refuses
+pub none_refuses : (refusals : List (Option PageRefusal)) → first_of refusals ≡ None → NoneOf refusals
+none_refuses [] none = tt
+none_refuses (None ∷ rest) none = (refl, none_refuses rest none)
+none_refuses (Some refusal ∷ rest) none = absurd (let bad = none in cc)
+
+-- a rule that doesn't refuse holds
+pub holds_where_none : (fails : Bool) (refusal : PageRefusal) → when fails refusal ≡ None → fails ≡ false
+holds_where_none false refusal none = refl
+holds_where_none true refusal none = absurd (let bad = none in cc)
+
+-- where nothing that was found is refused, nothing was found
+pub none_found : {A : Type 0} (f : A → PageRefusal) (found : Option A) → option_map f found ≡ None → found ≡ None
+none_found f None none = refl
+none_found f (Some found) none = absurd (let bad = none in cc)
+
+-- a page has at most 48 sides
+pub few_sides : (polygons : List (List Label)) → IsPage polygons → length (all_sides polygons) ≤ 48
+few_sides polygons page =
+    let rules = none_refuses (refusals polygons) page in
+    let few_labels = ltb-false 24 _ (holds_where_none (ltb 24 (length (labels_of polygons))) (TooManyLabels (length (labels_of polygons))) rules.1.1.1.0) in
+    let twice = twice_each (occurrences_of polygons) (labels_of polygons) (none_found (λ label. LabelCount label (occurrences_of polygons label)) _ rules.1.1.1.1.0) in
+    let counted = sides_counted (all_sides polygons) (labels_of polygons) (sides_among_with_labels (all_sides polygons) []) in
+    omega (arith, few_labels, twice, counted)

@@ -1,0 +1,13 @@
+mod Below
+mod BothSides
+pub mod FewSides
+mod Filled
+mod Firsts
+mod Keys
+mod LabelNumbers
+pub mod Laws
+mod Members
+mod Numbered
+mod Rules
+mod Sides
+mod Tables

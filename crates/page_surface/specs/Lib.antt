@@ -1,0 +1,7 @@
+pub mod Drawing
+pub mod Joining
+pub mod Labels
+pub mod Page
+pub mod PageTables
+pub mod Polygon
+pub mod Tables
