@@ -80,13 +80,11 @@ impl<W: Write + Drop> Sink for StdSink<W> {
 
     /// Fails where the writer does, and where it takes no byte of a piece that is not empty.
     fn write(&mut self, piece: &[u8]) -> Result<usize, Failed> {
-        match write_and_flush(&mut self.writer, piece) {
-            Ok(count) => Ok(count),
-            Err(Failed) => {
-                self.faults = self.faults.saturating_add(1);
-                Err(Failed)
-            }
+        let written = write_and_flush(&mut self.writer, piece);
+        if written.is_err() {
+            self.faults = self.faults.saturating_add(1);
         }
+        written
     }
 }
 

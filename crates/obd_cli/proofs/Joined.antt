@@ -14,5 +14,5 @@ pub listed_after : {A : Type 0} (many one : List ℕ) (words : A → List (List 
 unfolding listed
 listed_after {A = A} many one words items seen text piece before middle after same first second third =
     subst (λ (xs : List A). after ≡ text ++ (piece ++ listed many one words xs)) same
-      (third ∙ (ap (λ x. x ++ lines one words seen) (second ∙ ap (λ x. x ++ line many (decimal (length seen) ∷ [])) first)
-        ∙ (append_assoc (text ++ piece) (line many (decimal (length seen) ∷ [])) (lines one words seen) ∙ append_assoc text piece (listed many one words seen))))
+    (third ∙ (ap (λ x. x ++ lines one words seen) (second ∙ ap (λ x. x ++ line many (decimal (length seen) ∷ [])) first)
+    ∙ (append_assoc (text ++ piece) (line many (decimal (length seen) ∷ [])) (lines one words seen) ∙ append_assoc text piece (listed many one words seen))))

@@ -1,2 +1,4 @@
+pub mod Belongs
 pub mod Line
+pub mod Run
 pub mod Text

@@ -1,7 +1,7 @@
 -- The text of a certificate, line by line.
 use Rattle.std.specs.Prelude.{ℕ, List, [], ◌∷◌, ◌++◌, codes, decimal, length, map}
 use Rattle.std.specs.Fmt.{signed_decimal}
-use Rattle.std.specs.List.{flat_map, enumerate_from}
+use Rattle.std.specs.List.{enumerate_from}
 use Rattle.obd_base.specs.declared.points.Exit.{Exit}
 use Rattle.obd_cli.specs.Line.{exit_text, line, lines, listed}
 use Rattle.obd_cli.specs.declared.certificate.Certificate.{Certificate}

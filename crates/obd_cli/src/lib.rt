@@ -1,5 +1,16 @@
 //! The program's one call, from its words and the bytes that it reads to the text that it writes.
+//!
+//! `decide` reads a document, an open book, and writes a certificate. The certificate's lines from the
+//! version to the contact generator are a function of the book, which `run` promises. The forms of the
+//! document and the certificate are this project's own.
 #![tactic(auto)]
 
+mod annulus;
 mod certificate;
 mod line;
+mod status;
+mod top;
+
+pub use certificate::{Certificate, Cross, Finger, NamedPath, NamedTwist, Pivot, Verdict};
+pub use status::Status;
+pub use top::{DOCUMENT_LIMIT, run};

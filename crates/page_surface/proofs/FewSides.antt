@@ -35,7 +35,7 @@ label_among_with_label labels label = elim (cases_Bool (list_any (bytes_eq label
   | inr is ↦ rw (is, list_any-append (bytes_eq label) labels (label ∷ []), is, same_bytes label) refl
 ]
 
-among_with_labels : (sides labels : List Label) (label : Label) → IsAmong labels label → IsAmong (with_labels labels sides) label
+pub among_with_labels : (sides labels : List Label) (label : Label) → IsAmong labels label → IsAmong (with_labels labels sides) label
 among_with_labels [] labels label among = among
 among_with_labels (side ∷ sides) labels label among = among_with_labels sides (with_label labels side) label (among_with_label labels label side among)
 

@@ -1,4 +1,4 @@
-mod Below
+pub mod Below
 mod BothSides
 pub mod FewSides
 mod Filled
@@ -7,6 +7,7 @@ mod Keys
 mod LabelNumbers
 pub mod Laws
 mod Members
+pub mod Names
 mod Numbered
 mod Rules
 mod Sides

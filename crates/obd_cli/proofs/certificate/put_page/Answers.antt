@@ -1,4 +1,4 @@
-use Rattle.std.proofs.Common.{codes, ap, length, sym}
+use Rattle.std.proofs.Common.{codes}
 use Rattle.obd_cli.specs.Text.{polygon_words}
 use Rattle.obd_cli.proofs.Joined.{on_success, listed_after}
 use Rattle.obd_cli.proofs.certificate.put_page.Goals as goal
@@ -6,6 +6,6 @@ use Rattle.obd_cli.proofs.certificate.put_page.Goals as goal
 pub returns : goal.returns
 returns c =
     on_success c.put_polygons.result
-      (listed_after (codes "polygons") (codes "polygon") polygon_words c.args.certificate.now.polygons c.as_slice-polygons.result.now _ _ _ _ _ c.as_slice-polygons.ensures
-        c.in_ok-put_number.ensures c.in_ok-put_count.ensures)
-      c.put_polygons.ensures
+    (listed_after (codes "polygons") (codes "polygon") polygon_words c.args.certificate.now.polygons c.as_slice-polygons.result.now _ _ _ _ _ c.as_slice-polygons.ensures
+    c.in_ok-put_number.ensures c.in_ok-put_count.ensures)
+    c.put_polygons.ensures

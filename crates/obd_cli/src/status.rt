@@ -1,0 +1,33 @@
+// How a run ends.
+
+use obd_base::Text;
+
+/// How a run ends. The numbers are the program's exit codes.
+#[derive(Clone, Copy, Debug, PartialEq, Eq)]
+pub enum Status {
+    /// 0: what the command owes was written.
+    Done,
+    /// 1: the certificate that was read isn't valid.
+    Bad,
+    /// 2: the words are no command.
+    Usage,
+    /// 3: a rule of the document fails, or too many bytes were read.
+    Refused,
+    /// 4: the source failed.
+    ReadFault,
+    /// 5: the sink failed.
+    WriteFault,
+    /// 6: the diagram has more generators than the book's limit.
+    GeneratorLimit,
+    /// 7: the diagram needs more fingers than the book's limit.
+    MoveBudget,
+    /// 8: memory was wanting.
+    NoMemory,
+}
+
+/// A status with the text that goes with it.
+#[derive(Drop)]
+pub struct Answer {
+    pub(crate) status: Status,
+    pub(crate) text: Text,
+}

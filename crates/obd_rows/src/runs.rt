@@ -1,0 +1,179 @@
+// Runs of the top call over the ends in memory.
+use obd_base::{MemSink, MemSource, NullSink, SureSource};
+use obd_cli::{DOCUMENT_LIMIT, Status, run};
+use std::alloc::Global;
+use std::test::Fail;
+
+const ANNULUS: &str = "{\"open_book\":1,\"polygons\":[[\"A\",\"A\"]],\"curves\":[],\"twists\":[]}";
+
+const ANNULUS_TEXT: &str =
+    "contact certificate 1\npolygons 1\npolygon A A\ncurves 0\nslides 0\ntwists 0\nseams 0\nbasis 0 0\nstrand 0 1.0\nfingers 0\nfinal 0 1.0\ngenerators 2\ncontact 1 1\npivots 0\nrank 0\nhomology 2\nnonzero 1\nend\n";
+
+const NOT_BUILT: &str = "refused 90 NotBuilt document\n";
+
+const USAGE: &str = "usage: obd decide | page | check | sample SEED TWISTS\n";
+
+fn words(alloc: Global, texts: &[&str]) -> Result<Vec<String>, Fail> {
+    let mut words = Vec::new(alloc);
+    for text in texts {
+        words.push(String::from_str(alloc, text)?)?;
+    }
+    Ok(words)
+}
+
+#[test]
+fn documents_are_answered(rt: HostRuntime) -> Result<(), Fail> {
+    let alloc = rt.alloc();
+    let decide = words(alloc, &["decide"])?;
+    assert_eq!(rt; ANNULUS_TEXT.len(), 191);
+    for (document, text, status) in [
+        (ANNULUS, ANNULUS_TEXT, Status::Done),
+        (
+            " {\"twists\":[],\n\"curves\":[],\"polygons\":[[\"A\",\"A\"]],\"open_book\":1}\n",
+            ANNULUS_TEXT,
+            Status::Done,
+        ),
+        (
+            "{\"open_book\":1,\"polygons\":[[\"A\",\"A\"]],\"curves\":[[\"c\",[[\"A\",0,0]]]],\"twists\":[]}",
+            NOT_BUILT,
+            Status::Refused,
+        ),
+        (
+            "{\"open_book\":1,\"polygons\":[[\"A\",\"B\",\"A\",\"B\"]],\"curves\":[],\"twists\":[]}",
+            NOT_BUILT,
+            Status::Refused,
+        ),
+        (
+            "{\"open_book\":1,\"polygons\":[[\"A\",\"A\",\"A\"]],\"curves\":[],\"twists\":[]}",
+            NOT_BUILT,
+            Status::Refused,
+        ),
+        (
+            "{\"open_book\":1.0,\"polygons\":[[\"A\",\"A\"]],\"curves\":[],\"twists\":[]}",
+            NOT_BUILT,
+            Status::Refused,
+        ),
+        ("", NOT_BUILT, Status::Refused),
+    ] {
+        let mut source = SureSource::new(document.as_bytes().to_vec(alloc)?);
+        let mut sink = MemSink::new(alloc, 1000, 100, Vec::new(alloc))?;
+        assert_eq!(rt;
+            run(alloc, &decide, &mut source, &mut sink),
+            status,
+            "{document}"
+        );
+        assert_eq!(rt; sink.taken(), text.as_bytes(), "{document}");
+    }
+    Ok(())
+}
+
+#[test]
+fn words_that_are_no_command_give_the_usage_line(rt: HostRuntime) -> Result<(), Fail> {
+    let alloc = rt.alloc();
+    for texts in [
+        [].as_slice(),
+        ["solve"].as_slice(),
+        ["decide", "decide"].as_slice(),
+    ] {
+        let words = words(alloc, texts)?;
+        let mut source = MemSource::new(ANNULUS.as_bytes().to_vec(alloc)?, 16, vec![in alloc; 1]?);
+        let mut sink = MemSink::new(alloc, 1000, 100, Vec::new(alloc))?;
+        assert_eq!(rt; run(alloc, &words, &mut source, &mut sink), Status::Usage);
+        assert_eq!(rt; sink.taken(), USAGE.as_bytes());
+    }
+    Ok(())
+}
+
+#[test]
+fn a_source_that_fails_at_any_read_leaves_nothing_written(rt: HostRuntime) -> Result<(), Fail> {
+    let alloc = rt.alloc();
+    let decide = words(alloc, &["decide"])?;
+    // In pieces of 16 the document takes four reads, and its end a fifth.
+    for (failing, status, size) in [
+        (1, Status::ReadFault, 0),
+        (2, Status::ReadFault, 0),
+        (3, Status::ReadFault, 0),
+        (4, Status::ReadFault, 0),
+        (5, Status::ReadFault, 0),
+        (6, Status::Done, 191),
+    ] {
+        let mut source = MemSource::new(
+            ANNULUS.as_bytes().to_vec(alloc)?,
+            16,
+            vec![in alloc; failing]?,
+        );
+        let mut sink = MemSink::new(alloc, 1000, 100, Vec::new(alloc))?;
+        assert_eq!(rt;
+            run(alloc, &decide, &mut source, &mut sink),
+            status,
+            "{failing}"
+        );
+        assert_eq!(rt; sink.taken().len(), size, "{failing}");
+    }
+    Ok(())
+}
+
+#[test]
+fn a_sink_that_fails_at_its_second_write_has_the_first_piece(rt: HostRuntime) -> Result<(), Fail> {
+    let alloc = rt.alloc();
+    let decide = words(alloc, &["decide"])?;
+    let mut source = SureSource::new(ANNULUS.as_bytes().to_vec(alloc)?);
+    let mut sink = MemSink::new(alloc, 1000, 100, vec![in alloc; 2]?)?;
+    assert_eq!(rt;
+        run(alloc, &decide, &mut source, &mut sink),
+        Status::WriteFault
+    );
+    assert_eq!(rt; sink.taken().len(), 100);
+    assert!(rt; sink.taken().ends_with(b"strand 0 1"));
+    assert!(rt; ANNULUS_TEXT.as_bytes().starts_with(sink.taken()));
+    Ok(())
+}
+
+#[test]
+fn the_text_fits_into_room_for_191_bytes(rt: HostRuntime) -> Result<(), Fail> {
+    let alloc = rt.alloc();
+    let decide = words(alloc, &["decide"])?;
+    for (room, status) in [(190, Status::WriteFault), (191, Status::Done)] {
+        let mut source = SureSource::new(ANNULUS.as_bytes().to_vec(alloc)?);
+        let mut sink = MemSink::new(alloc, room, 200, Vec::new(alloc))?;
+        assert_eq!(rt;
+            run(alloc, &decide, &mut source, &mut sink),
+            status,
+            "{room}"
+        );
+        assert_eq!(rt; sink.taken().len(), room, "{room}");
+    }
+    Ok(())
+}
+
+#[test]
+fn one_byte_above_the_limit_is_refused(rt: HostRuntime) -> Result<(), Fail> {
+    let alloc = rt.alloc();
+    let decide = words(alloc, &["decide"])?;
+    for (size, text) in [
+        (DOCUMENT_LIMIT, NOT_BUILT),
+        (DOCUMENT_LIMIT + 1, "refused 1 InputLong 1048576\n"),
+    ] {
+        let mut source = SureSource::new(vec![in alloc; 32; size]?);
+        let mut sink = MemSink::new(alloc, 1000, 100, Vec::new(alloc))?;
+        assert_eq!(rt;
+            run(alloc, &decide, &mut source, &mut sink),
+            Status::Refused,
+            "{size}"
+        );
+        assert_eq!(rt; sink.taken(), text.as_bytes(), "{size}");
+    }
+    Ok(())
+}
+
+#[test]
+fn a_sink_that_tells_nothing_takes_the_text(rt: HostRuntime) -> Result<(), Fail> {
+    let alloc = rt.alloc();
+    let decide = words(alloc, &["decide"])?;
+    let mut source = SureSource::new(ANNULUS.as_bytes().to_vec(alloc)?);
+    assert_eq!(rt;
+        run(alloc, &decide, &mut source, &mut NullSink::new()),
+        Status::Done
+    );
+    Ok(())
+}
