@@ -68,18 +68,28 @@ fn documents_are_answered(rt: HostRuntime) -> Result<(), Fail> {
 }
 
 #[test]
+fn no_word_gives_the_usage_line(rt: HostRuntime) -> Result<(), Fail> {
+    let alloc = rt.alloc();
+    let mut source = SureSource::new(ANNULUS.as_bytes().to_vec(alloc)?);
+    let mut sink = MemSink::new(alloc, 1000, 100, Vec::new(alloc))?;
+    assert_eq!(rt; run(alloc, &[], &mut source, &mut sink), Status::Usage);
+    assert_eq!(rt; sink.taken(), USAGE.as_bytes());
+    Ok(())
+}
+
+#[test]
 fn words_that_are_no_command_give_the_usage_line(rt: HostRuntime) -> Result<(), Fail> {
     let alloc = rt.alloc();
-    for texts in [
-        [].as_slice(),
-        ["solve"].as_slice(),
-        ["decide", "decide"].as_slice(),
-    ] {
-        let words = words(alloc, texts)?;
+    for word in ["solve", "", "Decide", "decide "] {
+        let words = words(alloc, &[word])?;
         let mut source = MemSource::new(ANNULUS.as_bytes().to_vec(alloc)?, 16, vec![in alloc; 1]?);
         let mut sink = MemSink::new(alloc, 1000, 100, Vec::new(alloc))?;
-        assert_eq!(rt; run(alloc, &words, &mut source, &mut sink), Status::Usage);
-        assert_eq!(rt; sink.taken(), USAGE.as_bytes());
+        assert_eq!(rt;
+            run(alloc, &words, &mut source, &mut sink),
+            Status::Usage,
+            "{word}"
+        );
+        assert_eq!(rt; sink.taken(), USAGE.as_bytes(), "{word}");
     }
     Ok(())
 }
