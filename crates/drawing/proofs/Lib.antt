@@ -1,0 +1,16 @@
+mod Boundary
+mod ChordTree
+mod CutAlways
+mod Diagram
+mod Ends
+pub mod Examples
+pub mod Generators
+pub mod Laws
+mod Lists
+mod Mates
+mod Orbits
+mod PieceCount
+mod Placed
+pub mod SamePiece
+mod Spots
+pub mod Tests

@@ -4,7 +4,7 @@ use Rattle.std.specs.List.{position_or_len}
 use Rattle.std.proofs.lemmas.Bool.{cases_eq, false_from_ne_true}
 use Rattle.std.proofs.lemmas.List.Sums.{position_or_len_is}
 use Rattle.std.proofs.lemmas.List.FromFn.{length-range_with_len, get_or-range_with_len, sum_by-map-range_with_len_more}
-use Rattle.page_surface.specs.Polygon.{below}
+use Rattle.obd_base.specs.Lists.{below}
 
 -- the first number below n that passes is the one before which none does
 pub position_below : (test : ℕ → Bool) (n a : ℕ) → a < n → ((i : ℕ) → i < a → test i ≡ false) → test a ≡ true → position_or_len test (below n) ≡ a

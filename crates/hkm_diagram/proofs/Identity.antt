@@ -3,7 +3,8 @@ use Rattle.std.proofs.Common.{◌≡◌, ℕ, zero, suc, ◌<◌, ◌≤◌, tru
 use Rattle.std.proofs.lemmas.Bool.{cases_eq, eqb-true, eq-eqb, ne_eqb}
 use Rattle.std.proofs.lemmas.List.FromFn.{get_or-map-range_with_len}
 use Rattle.obd_base.specs.declared.points.Exit.{Exit}
-use Rattle.page_surface.specs.Polygon.{Polygon, IsPolygon, arc, arc_count, below, first_side, partner, second_side}
+use Rattle.page_surface.specs.Polygon.{Polygon, IsPolygon, arc, arc_count, first_side, partner, second_side}
+use Rattle.obd_base.specs.Lists.{below}
 use Rattle.page_surface.specs.Drawing.{all_exits, exit, identity, points_on, strand_exits}
 use Rattle.drawing.specs.Points.{crossings_of, is_on, strand_of}
 use Rattle.hkm_diagram.proofs.Below.{none_passes, one_passes, position_below, singles_joined}

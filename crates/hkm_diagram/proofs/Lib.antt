@@ -1,3 +1,8 @@
 mod Below
+mod ContactColumn
+mod ContactLaw
+mod DomainTest
+pub mod Examples
 mod Identity
+pub mod Laws
 mod Seen

@@ -3,7 +3,8 @@ use Rattle.std.proofs.Common.{◌≡◌, ℕ, ◌+◌, ◌<◌, ◌≤◌, List,
 use Rattle.std.proofs.lemmas.List.{get_or_read}
 use Rattle.std.proofs.lemmas.List.FromFn.{length-map-range_with_len, map-range_with_len_more}
 use Rattle.obd_base.specs.declared.points.Exit.{Exit}
-use Rattle.page_surface.specs.Polygon.{Polygon, IsPolygon, arc_count, below, second_side}
+use Rattle.page_surface.specs.Polygon.{Polygon, IsPolygon, arc_count, second_side}
+use Rattle.obd_base.specs.Lists.{below}
 use Rattle.page_surface.specs.Drawing.{Drawing, exit, identity, strand_exits}
 use Rattle.drawing.specs.Points.{crossings_of, strand_of}
 use Rattle.hkm_diagram.proofs.Identity.{one_crossing, strand_at}

@@ -1,8 +1,8 @@
 -- Lists that are collected number by number.
 use Rattle.std.proofs.Common.{◌≡◌, ℕ, ◌+◌, List, [], ◌∷◌, ◌++◌, map, ◌∙◌, ap, sym, add-one}
 use Rattle.std.proofs.lemmas.List.{map-append}
-use Rattle.page_surface.specs.Polygon.{below}
-use Rattle.page_surface.proofs.Below.{below_push}
+use Rattle.obd_base.specs.Lists.{below}
+use Rattle.obd_base.proofs.lists.Below.{below_push}
 
 -- what a map gives on the numbers below n, and then on n
 pub collected_more : {A : Type 0} (f : ℕ → A) (n : ℕ) (now then : List A) (x : A)

@@ -7,7 +7,8 @@ use Rattle.page_surface.specs.Drawing.{Drawing, identity, strand_exits}
 use Rattle.page_surface.specs.Joining.{page_polygon}
 use Rattle.page_surface.specs.Labels.{Label, labels_of}
 use Rattle.page_surface.specs.Page.{IsPage}
-use Rattle.page_surface.specs.Polygon.{Polygon, arc, below, paired, sides}
+use Rattle.page_surface.specs.Polygon.{Polygon, arc, paired, sides}
+use Rattle.obd_base.specs.Lists.{below}
 use Rattle.drawing.specs.Points.{contact_generator, crossings_of, generators}
 use Rattle.obd_cli.specs.Belongs.{BelongsTo, first_drawing, seam_names}
 use Rattle.obd_cli.specs.declared.certificate.Certificate.{Certificate}

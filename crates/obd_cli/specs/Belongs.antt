@@ -3,7 +3,8 @@ use Rattle.std.specs.Prelude.{◌≡◌, ℕ, ◌+◌, List, [], map, length, sl
 use Rattle.page_surface.specs.Drawing.{Drawing, identity}
 use Rattle.page_surface.specs.Joining.{joined, page_polygon}
 use Rattle.page_surface.specs.Labels.{Label, labels_of}
-use Rattle.page_surface.specs.Polygon.{arc, below, sides}
+use Rattle.page_surface.specs.Polygon.{arc, sides}
+use Rattle.obd_base.specs.Lists.{below}
 use Rattle.drawing.specs.Points.{contact_generator, generators}
 use Rattle.obd_cli.specs.declared.certificate.Certificate.{Certificate}
 

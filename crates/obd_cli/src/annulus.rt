@@ -2,7 +2,8 @@
 ghost use Rattle.std.specs.Prelude.{◌≡◌, ◌<◌, ◌≤◌, [], ◌∷◌, map, length, slice_index_or, IfOk};
 ghost use Rattle.page_surface.specs.Labels.{labels_of};
 ghost use Rattle.page_surface.specs.Page.{IsPage};
-ghost use Rattle.page_surface.specs.Polygon.{arc, arc_count, below, paired, sides};
+ghost use Rattle.page_surface.specs.Polygon.{arc, arc_count, paired, sides};
+ghost use Rattle.obd_base.specs.Lists.{below};
 ghost use Rattle.page_surface.specs.Drawing.{strand_exits};
 ghost use Rattle.drawing.specs.Points.{crossings_of};
 ghost use Rattle.obd_cli.specs.Belongs.{BelongsTo};

@@ -3,8 +3,9 @@ use Rattle.std.proofs.Common.{◌≡◌, ℕ, ◌+◌, ◌<◌, ◌≤◌, Bool,
 use Rattle.std.proofs.lemmas.List.{get_or_read}
 use Rattle.std.proofs.lemmas.List.Sums.{length-filter, count_by-le-length}
 use Rattle.std.proofs.lemmas.List.FromFn.{length-range_with_len, length-map-range_with_len, map-range_with_len_more, get_or-map-range_with_len}
-use Rattle.page_surface.specs.Polygon.{Pairs, arc_among, below, is_first, paired}
-use Rattle.page_surface.proofs.Below.{filter_suc}
+use Rattle.page_surface.specs.Polygon.{Pairs, arc_among, is_first, paired}
+use Rattle.obd_base.specs.Lists.{below}
+use Rattle.obd_base.proofs.lists.Below.{filter_suc}
 use Rattle.page_surface.proofs.Firsts.{first_count, first_from_less, low_of_first, low_shared}
 
 -- the tables of the sides below a side

@@ -4,8 +4,9 @@ use Rattle.std.proofs.lemmas.Bool.{cases_lt, eq-eqb, ne_eqb, not-true, not_from_
 use Rattle.std.proofs.lemmas.List.Sums.{length-filter, position_or_len_is}
 use Rattle.std.proofs.lemmas.List.Filters.{length-filter_both}
 use Rattle.std.proofs.lemmas.List.FromFn.{length-range_with_len, length-map-range_with_len, get_or-map-range_with_len}
-use Rattle.page_surface.specs.Polygon.{Pairs, below, partner, arc, first_side, is_first, arc_among, paired}
-use Rattle.page_surface.proofs.Below.{count_less, no_more_pass, passing_of}
+use Rattle.page_surface.specs.Polygon.{Pairs, partner, arc, first_side, is_first, arc_among, paired}
+use Rattle.obd_base.specs.Lists.{below}
+use Rattle.obd_base.proofs.lists.Below.{count_less, no_more_pass, passing_of}
 
 -- how many sides are read before their partners
 abbrev pub first_count : List ℕ → ℕ → ℕ

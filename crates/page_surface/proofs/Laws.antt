@@ -1,7 +1,7 @@
 -- The polygon of partners that pair sides off.
 use Rattle.std.proofs.Common.{◌≡◌, ℕ, ◌<◌, List, length, true, sym, ◌∙◌, ap, subst, arith}
 use Rattle.page_surface.specs.Polygon.{Pairs, IsPolygon, IsSideOf, arc, arc_count, first_side, is_first, paired}
-use Rattle.page_surface.proofs.Below.{count_less, less_of_count}
+use Rattle.obd_base.proofs.lists.Below.{count_less, less_of_count}
 use Rattle.page_surface.proofs.Firsts.{first_count, low, low_first, low_or_partner, low_shared, twice_firsts, arc_is, arc_of_first, first_side_of, first_of_arc}
 
 module _ (ps : List ℕ) (ok : Pairs (paired ps)) where
@@ -23,8 +23,9 @@ module _ (ps : List ℕ) (ok : Pairs (paired ps)) where
       subst (λ (x : ℕ). (x < length ps) × (is_first ps x ≡ true) × (first_count ps x ≡ a)) s (h, t, e)
 
 -- partners that pair sides off make a polygon
-pub paired_is_polygon : (partners : List ℕ) → Pairs (paired partners) → IsPolygon (paired partners)
-paired_is_polygon ps ok = record {
+pub paired_is_polygon : (partners : List ℕ) → 0 < length partners → Pairs (paired partners) → IsPolygon (paired partners)
+paired_is_polygon ps some ok = record {
+  not_empty = some;
   pairs = ok;
   even = omega (arith, twice_firsts ps ok);
   ends = ends ps ok;

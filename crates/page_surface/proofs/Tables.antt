@@ -3,9 +3,10 @@ use Rattle.std.proofs.Common.{◌≡◌, ℕ, ◌/◌, ◌<◌, List, length, ge
 use Rattle.std.proofs.lemmas.List.{get_or_read}
 use Rattle.std.proofs.lemmas.List.Sums.{length-filter}
 use Rattle.std.proofs.lemmas.List.FromFn.{length-map-range_with_len}
-use Rattle.page_surface.specs.Polygon.{Polygon, arc, arc_among, arc_count, below, first_side, is_first, paired, sides}
+use Rattle.page_surface.specs.Polygon.{Polygon, arc, arc_among, arc_count, first_side, is_first, paired, sides}
+use Rattle.obd_base.specs.Lists.{below}
 use Rattle.page_surface.specs.Tables.{IsTableOf}
-use Rattle.page_surface.proofs.Below.{passing_at}
+use Rattle.obd_base.proofs.lists.Below.{passing_at}
 use Rattle.page_surface.proofs.Firsts.{first_of_arc, first_side_of, twice_firsts}
 
 module _ (partners arcs first_sides : List ℕ) (table : IsTableOf partners arcs first_sides) where

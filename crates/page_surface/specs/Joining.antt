@@ -3,7 +3,8 @@ use Rattle.std.specs.Prelude.{ℕ, ◌-◌, Bool, true, false, nat_eq, ◌&&◌,
 use Rattle.std.specs.List.{list_any, flat_map, position_or_len, before_first, after_first}
 use Rattle.page_surface.specs.declared.page.SideLabel.{SideLabel}
 use Rattle.page_surface.specs.Labels.{Label, labels_of, side_labels_of}
-use Rattle.page_surface.specs.Polygon.{Polygon, below, paired}
+use Rattle.page_surface.specs.Polygon.{Polygon, paired}
+use Rattle.obd_base.specs.Lists.{below}
 
 -- a side by its label and its occurrence
 abbrev pub side : ℕ → ℕ → SideLabel

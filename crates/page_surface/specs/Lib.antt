@@ -5,3 +5,4 @@ pub mod Page
 pub mod PageTables
 pub mod Polygon
 pub mod Tables
+pub mod Words

@@ -1,15 +1,13 @@
 -- A polygon whose sides are glued in pairs: the partner of each side, and the arc of each side.
 use Rattle.std.specs.Prelude.{◌≡◌, ℕ, ◌*◌, ◌/◌, ◌<◌, min, Bool, nat_eq, nat_lt, List, map, length, slice_index_or, count_by, ◌⊎◌}
-use Rattle.std.specs.List.{position_or_len, range_with_len}
+use Rattle.std.specs.List.{position_or_len}
+use Rattle.obd_base.specs.Lists.{below}
 
 pub record Polygon : Type 0 where
   pub partners : List ℕ
   pub arcs : List ℕ
 
--- the numbers below n
-abbrev pub below : ℕ → List ℕ
-below n = range_with_len 0 n
-
+-- how many sides there are
 abbrev pub sides : Polygon → ℕ
 sides p = length p.partners
 
@@ -29,6 +27,7 @@ arc_count p = sides p / 2
 abbrev pub first_side : Polygon → ℕ → ℕ
 first_side p a = position_or_len (λ b. nat_eq b a) p.arcs
 
+-- and its partner
 abbrev pub second_side : Polygon → ℕ → ℕ
 second_side p a = partner p (first_side p a)
 
@@ -43,8 +42,9 @@ pub record IsSideOf (p : Polygon) (k a : ℕ) : Type 0 where
   pub arc_in_range : a < arc_count p
   pub is_end : (k ≡ first_side p a) ⊎ (k ≡ second_side p a)
 
--- partners pair the sides off, each side is one of the two sides of its arc, and arcs are numbered by first appearance
+-- there is a side, partners pair the sides off, each side is one of the two sides of its arc, and arcs are numbered by first appearance
 pub record IsPolygon (p : Polygon) : Type 0 where
+  pub not_empty : 0 < sides p
   pub pairs : Pairs p
   pub even : sides p ≡ 2 * arc_count p
   pub ends : (k : ℕ) → k < sides p → IsSideOf p k (arc p k)

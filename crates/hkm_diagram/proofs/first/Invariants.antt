@@ -1,6 +1,7 @@
 use Rattle.std.proofs.Common.{◌≡◌, [], ◌∷◌, map}
 use Rattle.page_surface.specs.Drawing.{exit}
-use Rattle.page_surface.specs.Polygon.{below, second_side}
+use Rattle.obd_base.specs.Lists.{below}
+use Rattle.page_surface.specs.Polygon.{second_side}
 use Rattle.hkm_diagram.proofs.first.Given as goal
 
 abbrev pub invariant-loop-arc : goal.invariant-loop-arc

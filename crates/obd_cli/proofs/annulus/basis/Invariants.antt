@@ -1,5 +1,6 @@
 use Rattle.std.proofs.Common.{◌≡◌, map}
-use Rattle.page_surface.specs.Polygon.{arc, below}
+use Rattle.page_surface.specs.Polygon.{arc}
+use Rattle.obd_base.specs.Lists.{below}
 use Rattle.obd_cli.proofs.annulus.basis.Given as goal
 
 -- the arcs of the sides so far

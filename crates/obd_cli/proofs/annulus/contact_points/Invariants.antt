@@ -1,6 +1,6 @@
 use Rattle.std.proofs.Common.{◌≡◌, map}
 use Rattle.drawing.specs.Points.{crossings_of}
-use Rattle.page_surface.specs.Polygon.{below}
+use Rattle.obd_base.specs.Lists.{below}
 use Rattle.obd_cli.proofs.annulus.contact_points.Given as goal
 
 -- the contact points of the arcs so far

@@ -1,6 +1,6 @@
 use Rattle.std.proofs.Common.{◌≡◌, map}
 use Rattle.page_surface.specs.Drawing.{strand_exits}
-use Rattle.page_surface.specs.Polygon.{below}
+use Rattle.obd_base.specs.Lists.{below}
 use Rattle.obd_cli.proofs.annulus.strands.Given as goal
 
 -- the exits of the strands so far

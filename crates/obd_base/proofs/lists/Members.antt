@@ -1,32 +1,23 @@
 -- Members of lists, and lists that hold no member twice.
 use Rattle.std.proofs.Common.{◌≡◌, ◌+◌, ◌≤◌, suc, subst, Bool, true, false, cond, List, [], ◌∷◌, ◌++◌, map, length, filter, refl, sym, ◌∙◌, ap, arith, ◌⊎◌, inl, inr, ◌≢◌, length-append}
 use Rattle.std.proofs.lemmas.Bool.{false≢true}
-
--- x stands in the list
-abbrev pub Mem : {A : Type 0} → A → List A → Type 0
-Mem x [] = ⊥
-Mem x (y ∷ ys) = (x ≡ y) ⊎ Mem x ys
-
--- no member stands twice
-abbrev pub Once : {A : Type 0} → List A → Type 0
-Once [] = Unit {0}
-Once (x ∷ xs) = (Mem x xs → ⊥) × Once xs
+use Rattle.obd_base.specs.Lists.{Mem, Once}
 
 module _ {A : Type 0} where
   -- a member of two joined lists is a member of one of them
-  mem_append : (x : A) (xs ys : List A) → Mem x (xs ++ ys) → Mem x xs ⊎ Mem x ys
+  pub mem_append : (x : A) (xs ys : List A) → Mem x (xs ++ ys) → Mem x xs ⊎ Mem x ys
   mem_append x [] ys m = inr m
   mem_append x (y ∷ xs) ys (inl e) = inl (inl e)
   mem_append x (y ∷ xs) ys (inr m) = elim (mem_append x xs ys m) [ inl k ↦ inl (inr k) | inr k ↦ inr k ]
 
   -- a member of the first list is one of the joined list
-  mem_left : (x : A) (xs ys : List A) → Mem x xs → Mem x (xs ++ ys)
+  pub mem_left : (x : A) (xs ys : List A) → Mem x xs → Mem x (xs ++ ys)
   mem_left x [] ys m = absurd m
   mem_left x (y ∷ xs) ys (inl e) = inl e
   mem_left x (y ∷ xs) ys (inr m) = inr (mem_left x xs ys m)
 
   -- a member of the second list is one of the joined list
-  mem_right : (x : A) (xs ys : List A) → Mem x ys → Mem x (xs ++ ys)
+  pub mem_right : (x : A) (xs ys : List A) → Mem x ys → Mem x (xs ++ ys)
   mem_right x [] ys m = m
   mem_right x (y ∷ xs) ys m = inr (mem_right x xs ys m)
 

@@ -1,0 +1,51 @@
+-- Members of joined lists, and the first number that passes a test.
+use Rattle.std.proofs.Common.{◌≡◌, ℕ, zero, suc, ◌<◌, Bool, true, false, List, [], ◌∷◌, map, length, get_or, refl, sym, ◌∙◌, ap, subst, arith, zero-add, inl, inr}
+use Rattle.std.specs.List.{flat_map, position_or_len, sum_by}
+use Rattle.std.proofs.lemmas.List.Sums.{sum_by-cons, position_or_len_is, fails_before_first}
+use Rattle.std.proofs.lemmas.List.FromFn.{length-range_with_len, get_or-range_with_len}
+use Rattle.obd_base.specs.Lists.{below, Mem}
+use Rattle.obd_base.proofs.lists.Members.{mem_append, mem_left, mem_right}
+
+-- a member of one of the lists is a member of all of them joined
+pub mem_flat : {X Y : Type 0} (g : X → List Y) (xs : List X) (x : X) (y : Y) → Mem x xs → Mem y (g x) → Mem y (flat_map g xs)
+mem_flat g [] x y m n = absurd m
+mem_flat g (z ∷ xs) x y (inl e) n = mem_left y (g z) (flat_map g xs) (subst (λ w. Mem y (g w)) e n)
+mem_flat g (z ∷ xs) x y (inr m) n = mem_right y (g z) (flat_map g xs) (mem_flat g xs x y m n)
+
+-- and comes from one
+pub flat_mem : {X Y : Type 0} (g : X → List Y) (xs : List X) (y : Y) → Mem y (flat_map g xs) → (x : X) × Mem x xs × Mem y (g x)
+flat_mem g [] y m = absurd m
+flat_mem g (z ∷ xs) y m = elim (mem_append y (g z) (flat_map g xs) m) [
+  | inl k ↦ (z, inl refl, k)
+  | inr k ↦ let (x, i, n) = flat_mem g xs y k in (x, inr i, n)
+]
+
+-- a member of a row is a member of all rows joined
+pub mem_row : {X : Type 0} (rows : List (List X)) (i : ℕ) (x : X) → Mem x (get_or rows i []) → Mem x (flat_map (λ s. s) rows)
+mem_row [] i x m = absurd m
+mem_row (r ∷ rows) zero x m = mem_left x r (flat_map (λ s. s) rows) m
+mem_row (r ∷ rows) (suc i) x m = mem_right x r (flat_map (λ s. s) rows) (mem_row rows i x m)
+
+-- a map takes members to members
+pub mem_to_map : {A B : Type 0} (f : A → B) (x : A) (xs : List A) → Mem x xs → Mem (f x) (map f xs)
+mem_to_map f x [] m = absurd m
+mem_to_map f x (y ∷ xs) (inl e) = inl (ap f e)
+mem_to_map f x (y ∷ xs) (inr m) = inr (mem_to_map f x xs m)
+
+-- the first number below n that passes
+pub first_is : (p : ℕ → Bool) (n s : ℕ) → s < n → p s ≡ true → ((t : ℕ) → t < s → p t ≡ false) → position_or_len p (below n) ≡ s
+first_is p n s l h none = position_or_len_is p (below n) s 0 (let z = length-range_with_len 0 n in omega (arith, z))
+    (λ k lk. let e : get_or (below n) k 0 ≡ k = get_or-range_with_len 0 n k 0 (omega arith) ∙ zero-add k in subst (λ x. p x ≡ false) (sym e) (none k lk))
+    (λ _. let e : get_or (below n) s 0 ≡ s = get_or-range_with_len 0 n s 0 l ∙ zero-add s in subst (λ x. p x ≡ true) (sym e) h)
+
+-- no number before it passes
+pub none_before : (p : ℕ → Bool) (n t : ℕ) → t < n → t < position_or_len p (below n) → p t ≡ false
+none_before p n t l h =
+    let f = fails_before_first p (below n) t 0 h in
+    let e : get_or (below n) t 0 ≡ t = get_or-range_with_len 0 n t 0 l ∙ zero-add t in
+    subst (λ x. p x ≡ false) e f
+
+-- a length is a sum of ones
+pub length_sum : {X : Type 0} (xs : List X) → length xs ≡ sum_by (λ x. 1) xs
+length_sum [] = refl
+length_sum (x ∷ xs) = omega (arith, sum_by-cons (λ x. 1) x xs, length_sum xs)

@@ -1,0 +1,6 @@
+-- Lemmas on lists that the crates above share.
+pub mod Below
+pub mod Counts
+pub mod Members
+pub mod Parts
+pub mod Sums
