@@ -1,12 +1,16 @@
 -- Worked drawings: the tight drawings of worked words, their pieces, distances and generators, and fingers.
 use Rattle.std.proofs.Common.{◌≡◌, true, false, [], ◌∷◌, length, map, refl}
-use Rattle.page_surface.specs.Drawing.{exit}
-use Rattle.page_surface.proofs.Examples.{annulus, annulus_one_left_twist, annulus_one_right_twist, annulus_two_right_twists, annulus_without_twist, chain_of_four_curves, eight_sides, torus, torus_after_three_fingers, torus_five_and_one, torus_five_pairs, torus_right_left, torus_right_right, torus_two_hexagons, torus_without_twist}
+use Rattle.page_surface.specs.Drawing.{Drawing, exit, is_embedded}
+use Rattle.page_surface.specs.Polygon.{IsPolygon}
+use Rattle.page_surface.proofs.EmbeddedTest.{embedded_from_test}
+use Rattle.page_surface.proofs.Examples.{annulus, annulus_is_polygon, eight_sides_is_polygon, torus_is_polygon, annulus_one_left_twist, annulus_one_right_twist, annulus_two_right_twists, annulus_without_twist, chain_of_four_curves, eight_sides, torus, torus_after_three_fingers, torus_five_and_one, torus_five_pairs, torus_right_left, torus_right_right, torus_two_hexagons, torus_without_twist}
 use Rattle.drawing.specs.Fingers.{finger, is_legal, pushed, replayed}
 use Rattle.drawing.specs.Pieces.{badness, distance, inner_pieces, pieces, segments_in}
 use Rattle.drawing.specs.Points.{contact_generator, generators, strand_of}
 use Rattle.drawing.specs.Round.{next_segment, previous_segment}
 use Rattle.drawing.specs.Tight.{tight_drawing}
+use Rattle.drawing.specs.Cut.{IsCut}
+use Rattle.drawing.proofs.Laws.{always_cut}
 
 -- the tight drawings of the words after twists
 annulus_without_twist_drawn : tight_drawing annulus ((1 ∷ []) ∷ []) ≡ annulus_without_twist
@@ -297,3 +301,43 @@ first_arc_strands = refl
 
 second_arc_strands : map (strand_of torus_after_three_fingers 1) (0 ∷ 1 ∷ 4 ∷ 7 ∷ 2 ∷ 3 ∷ 5 ∷ 6 ∷ 8 ∷ []) ≡ 0 ∷ 0 ∷ 0 ∷ 0 ∷ 1 ∷ 1 ∷ 1 ∷ 1 ∷ 1 ∷ []
 second_arc_strands = refl
+
+-- each is embedded, and so it is cut
+cut_where_embedded : (d : Drawing) → IsPolygon d.polygon → is_embedded d ≡ true → IsCut d
+cut_where_embedded d polygon test = always_cut d (embedded_from_test d polygon test)
+
+annulus_without_twist_is_cut : IsCut annulus_without_twist
+annulus_without_twist_is_cut = cut_where_embedded annulus_without_twist annulus_is_polygon refl
+
+annulus_one_right_twist_is_cut : IsCut annulus_one_right_twist
+annulus_one_right_twist_is_cut = cut_where_embedded annulus_one_right_twist annulus_is_polygon refl
+
+annulus_one_left_twist_is_cut : IsCut annulus_one_left_twist
+annulus_one_left_twist_is_cut = cut_where_embedded annulus_one_left_twist annulus_is_polygon refl
+
+annulus_two_right_twists_is_cut : IsCut annulus_two_right_twists
+annulus_two_right_twists_is_cut = cut_where_embedded annulus_two_right_twists annulus_is_polygon refl
+
+torus_without_twist_is_cut : IsCut torus_without_twist
+torus_without_twist_is_cut = cut_where_embedded torus_without_twist torus_is_polygon refl
+
+torus_right_right_is_cut : IsCut torus_right_right
+torus_right_right_is_cut = cut_where_embedded torus_right_right torus_is_polygon refl
+
+torus_right_left_is_cut : IsCut torus_right_left
+torus_right_left_is_cut = cut_where_embedded torus_right_left torus_is_polygon refl
+
+torus_two_hexagons_is_cut : IsCut torus_two_hexagons
+torus_two_hexagons_is_cut = cut_where_embedded torus_two_hexagons torus_is_polygon refl
+
+torus_after_three_fingers_is_cut : IsCut torus_after_three_fingers
+torus_after_three_fingers_is_cut = cut_where_embedded torus_after_three_fingers torus_is_polygon refl
+
+torus_five_and_one_is_cut : IsCut torus_five_and_one
+torus_five_and_one_is_cut = cut_where_embedded torus_five_and_one torus_is_polygon refl
+
+torus_five_pairs_is_cut : IsCut torus_five_pairs
+torus_five_pairs_is_cut = cut_where_embedded torus_five_pairs torus_is_polygon refl
+
+chain_of_four_curves_is_cut : IsCut chain_of_four_curves
+chain_of_four_curves_is_cut = cut_where_embedded chain_of_four_curves eight_sides_is_polygon refl

@@ -1,11 +1,12 @@
 -- Worked pages, words and drawings.
-use Rattle.std.proofs.Common.{◌≡◌, true, false, List, [], ◌∷◌, map, refl}
+use Rattle.std.proofs.Common.{◌≡◌, true, false, List, [], ◌∷◌, map, refl, arith}
 use Rattle.obd_base.specs.Lists.{below}
 use Rattle.page_surface.specs.Drawing.{Drawing, chords, entry, exit, has_right_places, identity, is_embedded, is_placed, no_two_cross, points_on, right_on, words}
 use Rattle.page_surface.specs.Joining.{joined, page_polygon, side}
 use Rattle.page_surface.specs.Labels.{Label}
-use Rattle.page_surface.specs.Polygon.{Polygon, first_side, paired, second_side}
+use Rattle.page_surface.specs.Polygon.{IsPolygon, Polygon, first_side, paired, second_side}
 use Rattle.page_surface.specs.Words.{inverse, reduced}
+use Rattle.page_surface.proofs.Laws.{polygon_from_test}
 
 -- one label with one side on each side of the polygon: an annulus
 abbrev pub annulus : Polygon
@@ -35,6 +36,16 @@ eight_sides_firsts = refl
 
 eight_sides_seconds : map (second_side eight_sides) (below 4) ≡ 2 ∷ 4 ∷ 6 ∷ 7 ∷ []
 eight_sides_seconds = refl
+
+-- each is a polygon
+pub annulus_is_polygon : IsPolygon annulus
+annulus_is_polygon = polygon_from_test (1 ∷ 0 ∷ []) (omega arith) refl
+
+pub torus_is_polygon : IsPolygon torus
+torus_is_polygon = polygon_from_test (2 ∷ 3 ∷ 0 ∷ 1 ∷ []) (omega arith) refl
+
+pub eight_sides_is_polygon : IsPolygon eight_sides
+eight_sides_is_polygon = polygon_from_test (2 ∷ 4 ∷ 0 ∷ 6 ∷ 1 ∷ 7 ∷ 3 ∷ 5 ∷ []) (omega arith) refl
 
 -- two triangles S A B, S A B
 abbrev pub two_triangles : List (List Label)

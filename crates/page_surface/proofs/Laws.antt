@@ -1,7 +1,9 @@
 -- The polygon of partners that pair sides off.
-use Rattle.std.proofs.Common.{◌≡◌, ℕ, ◌<◌, List, length, true, sym, ◌∙◌, ap, subst, arith}
-use Rattle.page_surface.specs.Polygon.{Pairs, IsPolygon, IsSideOf, arc, arc_count, first_side, is_first, paired}
-use Rattle.obd_base.proofs.lists.Below.{count_less, less_of_count}
+use Rattle.std.proofs.Common.{◌≡◌, ℕ, ◌<◌, List, length, true, sym, ◌∙◌, ap, subst, arith, eqb, ltb, not, get_or, inl, inr}
+use Rattle.std.proofs.lemmas.Bool.{and_parts, cases_lt, eqb-false, eqb-true, ltb-true, not-true}
+use Rattle.std.proofs.lemmas.List.{get_or_past}
+use Rattle.page_surface.specs.Polygon.{is_paired, Pairs, IsPolygon, IsSideOf, arc, arc_count, first_side, is_first, paired}
+use Rattle.obd_base.proofs.lists.Below.{all_below, count_less, less_of_count}
 use Rattle.page_surface.proofs.Firsts.{first_count, low, low_first, low_or_partner, low_shared, twice_firsts, arc_is, arc_of_first, first_side_of, first_of_arc}
 
 module _ (ps : List ℕ) (ok : Pairs (paired ps)) where
@@ -37,3 +39,20 @@ paired_is_polygon ps some ok = record {
       let (hb, tb, eb) = first ps ok b h in
       less_of_count (is_first ps) _ _ tb (omega (arith, ea, eb));
 }
+
+-- partners that pass the test pair sides off
+pub pairs_from_test : (partners : List ℕ) → is_paired partners ≡ true → Pairs (paired partners)
+pairs_from_test ps h = record {
+  in_range = λ k l. ltb-true _ _ (at k l).0;
+  twice = λ k. elim (cases_lt k (length ps)) [ inl l ↦ eqb-true _ _ (at k l).1.0 | inr l ↦ (let e = get_or_past ps k k l in ap (λ (j : ℕ). get_or ps j j) e ∙ e) ];
+  moves = λ k l e. eqb-false _ _ (not-true _ (at k l).1.1) e;
+}
+  where
+    at : (k : ℕ) → k < length ps → (ltb (get_or ps k k) (length ps) ≡ true) × ((eqb (get_or ps (get_or ps k k) (get_or ps k k)) k ≡ true) × (not (eqb (get_or ps k k) k) ≡ true))
+    at k l =
+        let both = and_parts (ltb (get_or ps k k) (length ps)) _ (all_below _ (length ps) h k l) in
+        (both.0, and_parts (eqb (get_or ps (get_or ps k k) (get_or ps k k)) k) _ both.1)
+
+-- so they make a polygon
+pub polygon_from_test : (partners : List ℕ) → 0 < length partners → is_paired partners ≡ true → IsPolygon (paired partners)
+polygon_from_test ps some h = paired_is_polygon ps some (pairs_from_test ps h)

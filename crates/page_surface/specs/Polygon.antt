@@ -1,6 +1,6 @@
 -- A polygon whose sides are glued in pairs: the partner of each side, and the arc of each side.
-use Rattle.std.specs.Prelude.{◌≡◌, ℕ, ◌*◌, ◌/◌, ◌<◌, min, Bool, nat_eq, nat_lt, List, map, length, slice_index_or, count_by, ◌⊎◌}
-use Rattle.std.specs.List.{position_or_len}
+use Rattle.std.specs.Prelude.{◌≡◌, ℕ, ◌*◌, ◌/◌, ◌<◌, min, Bool, nat_eq, nat_lt, ◌&&◌, not, List, map, length, slice_index_or, count_by, ◌⊎◌}
+use Rattle.std.specs.List.{list_all, position_or_len}
 use Rattle.obd_base.specs.Lists.{below}
 
 pub record Polygon : Type 0 where
@@ -36,6 +36,12 @@ pub record Pairs (p : Polygon) : Type 0 where
   pub in_range : (k : ℕ) → k < sides p → partner p k < sides p
   pub twice : (k : ℕ) → partner p (partner p k) ≡ k
   pub moves : (k : ℕ) → k < sides p → partner p k ≡ k → ⊥
+
+-- the same as a test of the partners
+abbrev pub is_paired : List ℕ → Bool
+is_paired partners =
+    list_all (λ k. let j = slice_index_or partners k k in
+    nat_lt j (length partners) && (nat_eq (slice_index_or partners j j) k && not (nat_eq j k))) (below (length partners))
 
 -- a side is one of the two sides of its arc
 pub record IsSideOf (p : Polygon) (k a : ℕ) : Type 0 where
