@@ -1,25 +1,30 @@
 -- The list of generators holds the generators and no other lists of points, each once.
-use Rattle.std.proofs.Common.{◌≡◌, ℕ, zero, suc, ◌<◌, ◌≤◌, List, [], ◌∷◌, map, length, get_or, refl, sym, ◌∙◌, ap, subst, arith, zero-add, inl, inr}
+use Rattle.std.proofs.Common.{◌≡◌, ℕ, zero, suc, ◌+◌, ◌<◌, ◌≤◌, true, List, [], ◌∷◌, ◌++◌, map, filter, length, get_or, add-zero, append_assoc, le_refl, refl, sym, ◌∙◌, ap, subst, arith, zero-add, inl, inr}
 use Rattle.std.specs.List.{flat_map}
 use Rattle.std.proofs.lemmas.List.{length-map}
 use Rattle.std.proofs.lemmas.List.FromFn.{get_or-map-range_with_len, length-range_with_len}
 use Rattle.obd_base.specs.Lists.{Mem, Once, below}
 use Rattle.obd_base.proofs.lists.Members.{filter_mem, mem_filter, mem_map, once_filter}
 use Rattle.obd_base.proofs.lists.Parts.{once_append}
-use Rattle.obd_base.proofs.lists.Below.{below_mem, mem_below, once_range}
+use Rattle.obd_base.proofs.lists.Below.{below_mem, below_push, mem_below, once_range}
 use Rattle.page_surface.specs.Drawing.{Drawing}
 use Rattle.page_surface.specs.Polygon.{arc_count}
-use Rattle.drawing.specs.Points.{IsGenerator, all_lists, crossings_of, generators, is_generator}
-use Rattle.drawing.proofs.Lists.{flat_mem, mem_flat, mem_to_map}
-use Rattle.drawing.proofs.Tests.{generator_from_test, test_from_generator}
+use Rattle.drawing.specs.Points.{IsGenerator, all_lists, contact_generator, crossings_of, generators, is_generator, is_on, strand_of, strands_of}
+use Rattle.std.specs.List.{enumerate_from, range_with_len}
+use Rattle.std.proofs.lemmas.Bool.{eq-eqb, le-ltb, ne_eqb}
+use Rattle.std.proofs.lemmas.List.{append-nil, map-append}
+use Rattle.std.proofs.lemmas.List.Concat.{flat_map-append}
+use Rattle.std.proofs.lemmas.List.Elements.{filter-append}
+use Rattle.drawing.proofs.Lists.{first_is, flat_mem, mem_flat, mem_to_map}
+use Rattle.drawing.proofs.Tests.{generator_from_test, test_from_generator, test_from_once}
 
 -- one number for each bound, none above it
-record IsBounded (bounds xs : List ℕ) : Type 0 where
-  one_each : length xs ≡ length bounds
-  in_range : (i : ℕ) → i < length bounds → get_or xs i 0 ≤ get_or bounds i 0
+pub record IsBounded (bounds xs : List ℕ) : Type 0 where
+  pub one_each : length xs ≡ length bounds
+  pub in_range : (i : ℕ) → i < length bounds → get_or xs i 0 ≤ get_or bounds i 0
 
 -- a listed list has one number up to each bound
-bounded : (bounds xs : List ℕ) → Mem xs (all_lists bounds) → IsBounded bounds xs
+pub bounded : (bounds xs : List ℕ) → Mem xs (all_lists bounds) → IsBounded bounds xs
 bounded [] xs (inl e) = record { one_each = ap length e; in_range = λ i l. absurd (omega arith) }
 bounded [] xs (inr m) = absurd m
 bounded (b ∷ bounds) xs m =
@@ -47,11 +52,11 @@ listed (b ∷ bounds) (x ∷ xs) ok =
     (mem_to_map (λ list. x ∷ list) xs (all_lists bounds) (listed bounds xs rest))
 
 -- there is one bound for each arc
-bound_count : (d : Drawing) → length (map (crossings_of d) (below (arc_count d.polygon))) ≡ arc_count d.polygon
+pub bound_count : (d : Drawing) → length (map (crossings_of d) (below (arc_count d.polygon))) ≡ arc_count d.polygon
 bound_count d = length-map (below (arc_count d.polygon)) (crossings_of d) ∙ length-range_with_len 0 (arc_count d.polygon)
 
 -- each is that of its arc
-bound_at : (d : Drawing) (a : ℕ) → a < arc_count d.polygon → get_or (map (crossings_of d) (below (arc_count d.polygon))) a 0 ≡ crossings_of d a
+pub bound_at : (d : Drawing) (a : ℕ) → a < arc_count d.polygon → get_or (map (crossings_of d) (below (arc_count d.polygon))) a 0 ≡ crossings_of d a
 bound_at d a l = get_or-map-range_with_len (crossings_of d) 0 (arc_count d.polygon) a a 0 l (zero-add a)
 
 -- a listed list of points is a generator
@@ -101,3 +106,49 @@ once_lists (b ∷ bounds) = once_joined (below (suc b)) (all_lists bounds) (once
 pub generators_once : (d : Drawing) → Once (generators d)
 generators_once d =
     once_filter (is_generator d) (all_lists (map (crossings_of d) (below (arc_count d.polygon)))) (once_lists (map (crossings_of d) (below (arc_count d.polygon))))
+
+-- of all lists up to some bounds the bounds come last
+bounds_last : (bounds : List ℕ) → (before : List (List ℕ)) × (all_lists bounds ≡ before ++ bounds ∷ [])
+bounds_last [] = ([], refl)
+bounds_last (b ∷ bounds) =
+    let (before, is) = bounds_last bounds in
+    let begun = λ (j : ℕ). map (λ list. j ∷ list) (all_lists bounds) in
+    let last : begun b ≡ map (λ list. b ∷ list) before ++ (b ∷ bounds) ∷ [] = ap (map (λ list. b ∷ list)) is ∙ map-append (λ list. b ∷ list) before (bounds ∷ []) in
+    (
+      flat_map begun (below b) ++ map (λ list. b ∷ list) before,
+      ap (flat_map begun) (below_push b) ∙ (flat_map-append begun (below b) (b ∷ [])
+      ∙ (ap (λ lists. flat_map begun (below b) ++ lists) (append-nil (begun b) ∙ last) ∙ sym (append_assoc (flat_map begun (below b)) (map (λ list. b ∷ list) before) ((b ∷ bounds) ∷ [])))),
+    )
+
+-- the contact point of an arc is on the arc's own strand
+pub contact_on_own : (d : Drawing) (a : ℕ) → a < arc_count d.polygon → strand_of d a (crossings_of d a) ≡ a
+contact_on_own d a l =
+    first_is (λ i. is_on d i a (crossings_of d a)) (arc_count d.polygon) a l
+    (rw (le-ltb (crossings_of d a) (crossings_of d a) (le_refl _)) (eq-eqb a a refl))
+    (λ i h. rw (le-ltb (crossings_of d a) (crossings_of d a) (le_refl _)) (ne_eqb i a (λ e. omega arith)))
+
+-- points on their arcs' own strands, on arcs that are counted from a number on
+pub own_strands : (f : ℕ → ℕ → ℕ) (n : ℕ) (points : List ℕ) → ((i : ℕ) → i < length points → f (n + i) (get_or points i 0) ≡ n + i)
+    → map (λ e. f e.0 e.1) (enumerate_from n points) ≡ range_with_len n (length points)
+own_strands f n [] own = refl
+own_strands f n (point ∷ points) own =
+    let first : f n point ≡ n = (let z : f (n + 0) point ≡ n + 0 = own 0 (omega arith) in rw add-zero at z) in
+    rw first (ap (λ strands. n ∷ strands) (own_strands f (n + 1) points (λ i l. shifted i (own (suc i) (omega arith)))))
+  where
+    shifted : (i : ℕ) → f (n + suc i) (get_or points i 0) ≡ n + suc i → f (n + 1 + i) (get_or points i 0) ≡ n + 1 + i
+    shifted i own = let e : n + suc i ≡ n + 1 + i = omega arith in rw e at own
+
+-- a listed list of points whose points are on their arcs' own strands passes
+pub own_is_generator : (d : Drawing) (points : List ℕ) → length points ≡ arc_count d.polygon
+    → ((a : ℕ) → a < arc_count d.polygon → strand_of d a (get_or points a 0) ≡ a) → is_generator d points ≡ true
+own_is_generator d points one own =
+    let strands : strands_of d points ≡ below (length points) = own_strands (strand_of d) 0 points (λ i l. rw (zero-add i) (own i (omega arith))) in
+    rw strands (test_from_once (below (length points)) (once_range 0 (length points)))
+
+-- of all generators the contact generator comes last
+pub contact_comes_last : (d : Drawing) → (before : List (List ℕ)) × (generators d ≡ before ++ contact_generator d ∷ [])
+contact_comes_last d =
+    let bounds = contact_generator d in
+    let (before, is) = bounds_last bounds in
+    let passes : is_generator d bounds ≡ true = own_is_generator d bounds (bound_count d) (λ a l. ap (strand_of d a) (bound_at d a l) ∙ contact_on_own d a l) in
+    (filter (is_generator d) before, ap (filter (is_generator d)) is ∙ (filter-append (is_generator d) before (bounds ∷ []) ∙ ap (λ kept. filter (is_generator d) before ++ kept) (rw passes refl)))

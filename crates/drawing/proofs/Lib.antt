@@ -1,12 +1,12 @@
 mod Boundary
-mod ChordTree
+pub mod ChordTree
 mod CutAlways
 mod Diagram
 mod Ends
 pub mod Examples
 pub mod Generators
 pub mod Laws
-mod Lists
+pub mod Lists
 mod Mates
 mod Orbits
 mod PieceCount

@@ -1,9 +1,11 @@
 -- Members of joined lists, and the first number that passes a test.
-use Rattle.std.proofs.Common.{◌≡◌, ℕ, zero, suc, ◌<◌, Bool, true, false, List, [], ◌∷◌, map, length, get_or, refl, sym, ◌∙◌, ap, subst, arith, zero-add, inl, inr}
+use Rattle.std.proofs.Common.{◌≡◌, ℕ, zero, suc, ◌<◌, Bool, true, false, List, [], ◌∷◌, map, length, get_or, eqb, refl, sym, ◌∙◌, ap, subst, arith, zero-add, inl, inr}
 use Rattle.std.specs.List.{flat_map, position_or_len, sum_by}
 use Rattle.std.proofs.lemmas.List.Sums.{sum_by-cons, position_or_len_is, fails_before_first}
 use Rattle.std.proofs.lemmas.List.FromFn.{length-range_with_len, get_or-range_with_len}
-use Rattle.obd_base.specs.Lists.{below, Mem}
+use Rattle.std.specs.List.{list_any}
+use Rattle.std.proofs.lemmas.Bool.{cases_Bool, eqb-true, eq-eqb, false≢true}
+use Rattle.obd_base.specs.Lists.{below, has, Mem}
 use Rattle.obd_base.proofs.lists.Members.{mem_append, mem_left, mem_right}
 
 -- a member of one of the lists is a member of all of them joined
@@ -49,3 +51,14 @@ none_before p n t l h =
 pub length_sum : {X : Type 0} (xs : List X) → length xs ≡ sum_by (λ x. 1) xs
 length_sum [] = refl
 length_sum (x ∷ xs) = omega (arith, sum_by-cons (λ x. 1) x xs, length_sum xs)
+
+-- a number stands in a list as a test where it does as a fact
+pub has_mem : (xs : List ℕ) (s : ℕ) → Mem s xs → has xs s ≡ true
+has_mem [] s m = absurd m
+has_mem (x ∷ xs) s (inl e) = rw (eq-eqb s x e)
+has_mem (x ∷ xs) s (inr m) = elim (cases_Bool (eqb s x)) [ inl q ↦ rw q | inr q ↦ rw (q, has_mem xs s m) ]
+
+-- and the other way
+pub mem_has : (xs : List ℕ) (s : ℕ) → has xs s ≡ true → Mem s xs
+mem_has [] s h = absurd (false≢true h)
+mem_has (x ∷ xs) s h = elim (cases_Bool (eqb s x)) [ inl q ↦ inl (eqb-true s x q) | inr q ↦ inr (mem_has xs s (let k : has xs s ≡ true = rw q at h in k)) ]

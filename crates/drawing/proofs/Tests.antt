@@ -5,6 +5,7 @@ use Rattle.obd_base.specs.Lists.{Mem, Once, has}
 use Rattle.page_surface.specs.Drawing.{Drawing, exit, points_on, spot, strand_exits}
 use Rattle.page_surface.specs.Polygon.{arc_count, sides}
 use Rattle.drawing.specs.Fingers.{Finger, IsLegal, borders, chord_at, is_legal}
+use Rattle.drawing.proofs.Lists.{has_mem, mem_has}
 use Rattle.drawing.specs.Points.{IsGenerator, all_different, crossings_of, is_generator, strands_of}
 
 -- a finger that passes is legal
@@ -25,29 +26,18 @@ pub test_from_legal : (d : Drawing) (f : Finger) → IsLegal d f → is_legal d 
 test_from_legal d f ok =
     and_from _ _ (lt-ltb _ _ ok.strand) (and_from _ _ (le-leb _ _ ok.chord) (and_from _ _ (lt-ltb _ _ ok.side) (and_from _ _ (le-leb _ _ ok.segment) ok.borders_it)))
 
--- a number that the test finds is a member
-has_mem : (xs : List ℕ) (x : ℕ) → has xs x ≡ true → Mem x xs
-has_mem [] x h = absurd (false≢true h)
-has_mem (y ∷ xs) x h = elim (or_cases (eqb x y) (has xs x) h) [ inl q ↦ inl (eqb-true x y q) | inr q ↦ inr (has_mem xs x q) ]
-
--- and the test finds each member
-mem_has : (xs : List ℕ) (x : ℕ) → Mem x xs → has xs x ≡ true
-mem_has [] x m = absurd m
-mem_has (y ∷ xs) x (inl q) = or_left (eqb x y) (has xs x) (eq-eqb x y q)
-mem_has (y ∷ xs) x (inr m) = or_right (eqb x y) (has xs x) (mem_has xs x m)
-
 -- a list that passes repeats no number
 pub once_from_test : (xs : List ℕ) → all_different xs ≡ true → Once xs
 once_from_test [] h = tt
 once_from_test (x ∷ xs) h =
     let r = and_parts (not (has xs x)) (all_different xs) h in
-    (λ m. absurd (false≢true (sym (not-true _ r.0) ∙ mem_has xs x m)), once_from_test xs r.1)
+    (λ m. absurd (false≢true (sym (not-true _ r.0) ∙ has_mem xs x m)), once_from_test xs r.1)
 
 -- a list that repeats no number passes
 pub test_from_once : (xs : List ℕ) → Once xs → all_different xs ≡ true
 test_from_once [] o = refl
 test_from_once (x ∷ xs) o =
-    and_from (not (has xs x)) (all_different xs) (ap not (false_from_ne_true (has xs x) (λ h. o.0 (has_mem xs x h)))) (test_from_once xs o.1)
+    and_from (not (has xs x)) (all_different xs) (ap not (false_from_ne_true (has xs x) (λ h. o.0 (mem_has xs x h)))) (test_from_once xs o.1)
 
 -- points that pass, one on each arc, are a generator
 pub generator_from_test : (d : Drawing) (points : List ℕ) → length points ≡ arc_count d.polygon

@@ -47,10 +47,10 @@ module _ (d : Drawing) (set : List ℕ) where
   KeepsRule y x = (a : ℕ) → a < arc_count d.polygon → (j : ℕ) → j ≤ crossings_of d a → keeps_rule d (piece_table d) y x set a j ≡ true
 
   -- the rule at a crossing point and at the contact point, by these marks
-  out_is : (a j : ℕ) → j < crossings_of d a → met (piece_table d) set (from_spans d a j) ≡ on_first a (suc j) + on_second a j
+  pub out_is : (a j : ℕ) → j < crossings_of d a → met (piece_table d) set (from_spans d a j) ≡ on_first a (suc j) + on_second a j
   out_is a j l = rw (lt-ltb j (crossings_of d a) l, zero-add)
 
-  in_is : (a j : ℕ) → j < crossings_of d a → met (piece_table d) set (to_spans d a j) ≡ on_first a j + on_second a (suc j)
+  pub in_is : (a j : ℕ) → j < crossings_of d a → met (piece_table d) set (to_spans d a j) ≡ on_first a j + on_second a (suc j)
   in_is a j l =
       let e : crossings_of d a - 1 - j ≡ crossings_of d a - suc j = omega arith in
       rw (lt-ltb j (crossings_of d a) l, zero-add, e)
@@ -58,7 +58,7 @@ module _ (d : Drawing) (set : List ℕ) where
   pub out_is_last : (a : ℕ) → met (piece_table d) set (from_spans d a (crossings_of d a)) ≡ 0
   out_is_last a = rw (le-ltb (crossings_of d a) (crossings_of d a) (le_refl _))
 
-  in_is_last : (a : ℕ) → met (piece_table d) set (to_spans d a (crossings_of d a)) ≡ on_first a (crossings_of d a) + on_second a 0
+  pub in_is_last : (a : ℕ) → met (piece_table d) set (to_spans d a (crossings_of d a)) ≡ on_first a (crossings_of d a) + on_second a 0
   in_is_last a =
       let e : crossings_of d a - 0 ≡ crossings_of d a = omega arith in
       rw (le-ltb (crossings_of d a) (crossings_of d a) (le_refl _), zero-add, e)

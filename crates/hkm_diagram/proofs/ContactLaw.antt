@@ -25,7 +25,7 @@ base_first d s l h =
 
 module _ (d : Drawing) (set : List ℕ) (inner : (s : ℕ) → has set s ≡ true → has (inner_pieces d) s ≡ true) where
   -- no base span is marked
-  base_unmarked : (s : ℕ) → s < span_count d → is_base d s ≡ true → mark d set s ≡ 0
+  pub base_unmarked : (s : ℕ) → s < span_count d → is_base d s ≡ true → mark d set s ≡ 0
   base_unmarked s l h = go (cases_Bool (has set (get_or (piece_table d) s 0)))
     where
       go : (has set (get_or (piece_table d) s 0) ≡ true) ⊎ (has set (get_or (piece_table d) s 0) ≡ false) → mark d set s ≡ 0
@@ -33,7 +33,7 @@ module _ (d : Drawing) (set : List ℕ) (inner : (s : ℕ) → has set s ≡ tru
       go (inr q) = rw q
 
   -- a member of the set is marked
-  member_marked : (s : ℕ) → has set s ≡ true → (s < span_count d) × (mark d set s ≡ 1)
+  pub member_marked : (s : ℕ) → has set s ≡ true → (s < span_count d) × (mark d set s ≡ 1)
   member_marked s h =
       let i = (has_filter (λ s. not (is_base d s)) (pieces d) s (inner s h)).1 in
       let j = has_filter (λ s. eqb (get_or (piece_table d) s 0) s) (spans d) s i in
@@ -50,7 +50,7 @@ module _ (d : Drawing) (set : List ℕ) (inner : (s : ℕ) → has set s ≡ tru
       absurd (omega (arith, m.1, r, b))
 
 -- a list in which no number stands is empty
-nil_from_none : (xs : List ℕ) → ((s : ℕ) → has xs s ≡ true → ⊥) → xs ≡ []
+pub nil_from_none : (xs : List ℕ) → ((s : ℕ) → has xs s ≡ true → ⊥) → xs ≡ []
 nil_from_none [] h = refl
 nil_from_none (x ∷ xs) h = absurd (h x (rw (eq-eqb x x refl)))
 

@@ -15,25 +15,25 @@ module _ (p : Polygon) (ok : IsPolygon p) where
   single i = exit (second_side p i) 0
 
   -- the second side of an arc is one of its sides
-  second_named : (a : ℕ) → a < arc_count p → arc p (second_side p a) ≡ a
+  pub second_named : (a : ℕ) → a < arc_count p → arc p (second_side p a) ≡ a
   second_named a l = ok.shared _ (ok.first_in_range a l) ∙ ok.first_named a l
 
   -- no side is both a second side and a first side
-  sides_apart : (i a : ℕ) → i < arc_count p → a < arc_count p → second_side p i ≡ first_side p a → ⊥
+  pub sides_apart : (i a : ℕ) → i < arc_count p → a < arc_count p → second_side p i ≡ first_side p a → ⊥
   sides_apart i a li la e =
       let q : i ≡ a = sym (second_named i li) ∙ (ap (arc p) e ∙ ok.first_named a la) in
       ok.pairs.moves _ (ok.first_in_range i li) (e ∙ ap (first_side p) (sym q))
 
   -- arcs with one first side are one
-  same_from_first : (i a : ℕ) → i < arc_count p → a < arc_count p → first_side p i ≡ first_side p a → i ≡ a
+  pub same_from_first : (i a : ℕ) → i < arc_count p → a < arc_count p → first_side p i ≡ first_side p a → i ≡ a
   same_from_first i a li la e = sym (ok.first_named i li) ∙ (ap (arc p) e ∙ ok.first_named a la)
 
   -- arcs with one second side are one
-  same_from_second : (i a : ℕ) → i < arc_count p → a < arc_count p → second_side p i ≡ second_side p a → i ≡ a
+  pub same_from_second : (i a : ℕ) → i < arc_count p → a < arc_count p → second_side p i ≡ second_side p a → i ≡ a
   same_from_second i a li la e = sym (second_named i li) ∙ (ap (arc p) e ∙ second_named a la)
 
   -- the partner of a second side is the first side
-  back : (i : ℕ) → partner p (second_side p i) ≡ first_side p i
+  pub back : (i : ℕ) → partner p (second_side p i) ≡ first_side p i
   back i = ok.pairs.twice (first_side p i)
 
   -- the exits of all strands are on the second sides
@@ -59,7 +59,7 @@ module _ (p : Polygon) (ok : IsPolygon p) where
       omega (arith, out, into)
 
   -- a second side has one point
-  second_point : (a : ℕ) → a < arc_count p → points_on (identity p) (second_side p a) ≡ 1
+  pub second_point : (a : ℕ) → a < arc_count p → points_on (identity p) (second_side p a) ≡ 1
   second_point a l =
       let out : leaves (second_side p a) ≡ 1 = rw exits_are
       (one_passes single (λ e. nat_eq e.side (second_side p a)) (arc_count p) a l (eq-eqb _ _ refl)
@@ -70,7 +70,7 @@ module _ (p : Polygon) (ok : IsPolygon p) where
       omega (arith, out, into)
 
   -- the exits of a strand are its one exit
-  strand_is : (i : ℕ) → i < arc_count p → strand_exits (identity p) i ≡ single i ∷ []
+  pub strand_is : (i : ℕ) → i < arc_count p → strand_exits (identity p) i ≡ single i ∷ []
   strand_is i l = get_or-map-range_with_len (λ i. single i ∷ []) 0 (arc_count p) i i [] l (zero-add i)
 
   -- a strand is on the points of its own arc, and on no other points

@@ -13,25 +13,15 @@ use Rattle.page_surface.specs.Polygon.{IsPolygon, arc_count, sides}
 use Rattle.drawing.specs.Cut.{IsCut}
 use Rattle.drawing.specs.Pieces.{gap, inner_pieces, is_base, piece_table, pieces, same_piece, span_count, spans}
 use Rattle.drawing.specs.Points.{contact_generator, generators}
+use Rattle.drawing.proofs.Lists.{has_mem, mem_has}
 use Rattle.drawing.proofs.SamePiece.{same_piece_refl}
 use Rattle.hkm_diagram.specs.Domains.{IsDomain, column, domains, is_domain}
 use Rattle.drawing.proofs.Laws.{always_cut}
 use Rattle.hkm_diagram.proofs.ContactLaw.{contact_column, no_loop}
 use Rattle.hkm_diagram.proofs.DomainTest.{is_domain_decides}
 
--- a number stands in a list as a test where it does as a fact
-has_mem : (xs : List ℕ) (s : ℕ) → Mem s xs → has xs s ≡ true
-has_mem [] s m = absurd m
-has_mem (x ∷ xs) s (inl e) = rw (eq-eqb s x e)
-has_mem (x ∷ xs) s (inr m) = elim (cases_Bool (eqb s x)) [ inl q ↦ rw q | inr q ↦ rw (q, has_mem xs s m) ]
-
--- and the other way
-mem_has : (xs : List ℕ) (s : ℕ) → has xs s ≡ true → Mem s xs
-mem_has [] s h = absurd (false≢true h)
-mem_has (x ∷ xs) s h = elim (cases_Bool (eqb s x)) [ inl q ↦ inl (eqb-true s x q) | inr q ↦ inr (mem_has xs s (let k : has xs s ≡ true = rw q at h in k)) ]
-
 -- a list without members is empty
-no_members : {A : Type 0} (xs : List A) → ((x : A) → Mem x xs → ⊥) → xs ≡ []
+pub no_members : {A : Type 0} (xs : List A) → ((x : A) → Mem x xs → ⊥) → xs ≡ []
 no_members [] h = refl
 no_members (x ∷ xs) h = absurd (h x (inl refl))
 

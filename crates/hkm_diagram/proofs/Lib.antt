@@ -4,5 +4,8 @@ mod ContactLaw
 mod DomainTest
 pub mod Examples
 mod Identity
+pub mod IdentityColumns
+mod IdentityDomains
+mod IdentityPieces
 pub mod Laws
 mod Seen

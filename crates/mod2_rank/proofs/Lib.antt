@@ -1,1 +1,2 @@
+pub mod EmptyColumns
 pub mod Examples
