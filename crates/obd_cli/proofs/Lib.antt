@@ -1,7 +1,7 @@
 mod Collected
+mod Listed
 mod Decides
 mod Joined
+mod Made
 mod Named
 mod Numbered
-mod OneLabel
-mod TwoGon

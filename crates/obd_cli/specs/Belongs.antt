@@ -1,12 +1,20 @@
 -- The book that a certificate belongs to.
-use Rattle.std.specs.Prelude.{◌≡◌, ℕ, ◌+◌, List, [], map, length, slice_get, slice_index_or, Some}
-use Rattle.page_surface.specs.Drawing.{Drawing, identity}
+use Rattle.std.specs.Prelude.{◌≡◌, ℕ, pos, ◌-ℤ◌, ◌+◌, ◌*◌, ◌≤◌, List, [], map, length, slice_get, slice_index_or, Some}
+use Rattle.obd_base.specs.Lists.{below}
+use Rattle.obd_base.specs.declared.points.Column.{Column}
+use Rattle.page_surface.specs.Drawing.{Drawing, identity, strand_exits}
 use Rattle.page_surface.specs.Joining.{joined, page_polygon}
 use Rattle.page_surface.specs.Labels.{Label, labels_of}
-use Rattle.page_surface.specs.Polygon.{arc, sides}
-use Rattle.obd_base.specs.Lists.{below}
+use Rattle.page_surface.specs.Polygon.{IsPolygon, Polygon, arc, arc_count, sides}
 use Rattle.drawing.specs.Points.{contact_generator, generators}
+use Rattle.hkm_diagram.specs.Domains.{columns}
+use Rattle.mod2_rank.specs.Linear.{IsOutcome, IsRank, Verdict as Found, chain, column_at, functional}
 use Rattle.obd_cli.specs.declared.certificate.Certificate.{Certificate}
+use Rattle.obd_cli.specs.declared.certificate.Pivot.{Pivot}
+use Rattle.obd_cli.specs.declared.certificate.Verdict.{Verdict}
+use Rattle.obd_cli.specs.declared.certificate.Verdict.TheVariants.{Chain, Functional}
+use Rattle.obd_cli.specs.declared.complex.Complex.{Complex}
+use Rattle.obd_cli.specs.declared.complex.Outcome.{Outcome}
 
 -- the first drawing of a book without twists: the identity drawing of its polygon
 abbrev pub first_drawing : List (List Label) → Drawing
@@ -16,15 +24,48 @@ first_drawing page = identity (page_polygon page)
 abbrev pub book_generators : List (List Label) → List (List ℕ)
 book_generators page = generators (first_drawing page)
 
+-- the columns of the differential, one for each generator
+abbrev pub book_columns : List (List Label) → List (List ℕ)
+book_columns page = columns (first_drawing page)
+
 -- the numbers of the contact points
 abbrev pub contact_numbers : List (List Label) → List ℕ
 contact_numbers page = contact_generator (first_drawing page)
 
+-- the names of some labels
+abbrev pub names_of : List (List Label) → List ℕ → List Label
+names_of page labels = map (λ label. slice_index_or (labels_of page) label []) labels
+
 -- the names of the labels that become seams
 abbrev pub seam_names : List (List Label) → List Label
-seam_names page = map (λ label. slice_index_or (labels_of page) label []) (joined page).seams
+seam_names page = names_of page (joined page).seams
 
--- the lines from the version to the contact generator are those of the page without curves and twists
+-- columns as the lists of their rows
+abbrev pub rows_of : List Column → List (List ℕ)
+rows_of columns = map (λ column. column.rows) columns
+
+-- a verdict line: a chain of columns, or a functional by its rows
+abbrev pub found : Verdict → Found
+found (Chain columns) = chain columns
+found (Functional rows) = functional rows
+
+-- the pivots, the rank and the verdict are those of the columns, with the last row as contact row
+pub record Concludes (columns : List (List ℕ)) (pivots : List Pivot) (rank : ℕ) (verdict : Verdict) : Type 0 where
+  pub outcome : IsOutcome (length columns) columns (map (λ pivot. pivot.column) pivots) (map (λ pivot. pivot.row) pivots) (found verdict)
+  pub rank_is : IsRank (length columns) columns rank
+
+abbrev pub IsOutcomeOf : List (List ℕ) → Outcome → Type 0
+IsOutcomeOf columns outcome = Concludes columns outcome.pivots outcome.rank outcome.verdict
+
+-- the number of generators of a drawing, of which there is one at least, and the outcome of its columns
+pub record IsComplexOf (d : Drawing) (complex : Complex) : Type 0 where
+  pub count : complex.generators ≡ length (generators d)
+  pub least : 1 ≤ complex.generators
+  pub most : complex.generators ≤ 256
+  pub concludes : IsOutcomeOf (columns d) complex.outcome
+  pub rank : complex.outcome.rank ≤ complex.generators
+
+-- every line is that of the page without curves and twists
 pub record BelongsTo (page : List (List Label)) (c : Certificate) : Type 0 where
   pub version : c.version ≡ 1
   -- the page's polygons; no curve, no slide and no twist
@@ -44,3 +85,26 @@ pub record BelongsTo (page : List (List Label)) (c : Certificate) : Type 0 where
   pub points : c.points ≡ contact_numbers page
   pub contact : slice_get (book_generators page) c.contact ≡ Some c.points
   pub contact_last : c.contact + 1 ≡ c.generators
+  pub contact_column : column_at (book_columns page) c.contact ≡ []
+  -- what the elimination finds, and the number that is left
+  pub concludes : Concludes (book_columns page) c.pivots c.rank c.verdict
+  pub homology : c.homology ≡ pos c.generators -ℤ pos (2 * c.rank)
+
+-- every field is made from the page, the numbers of its seams, its polygon and that polygon's identity drawing
+pub record IsMade (page : List (List Label)) (seams : List ℕ) (polygon : Polygon) (c : Certificate) : Type 0 where
+  pub valid : IsPolygon polygon
+  pub version : c.version ≡ 1
+  pub polygons : c.polygons ≡ page
+  pub curves : c.curves ≡ []
+  pub slides : c.slides ≡ []
+  pub twists : c.twists ≡ []
+  pub seams_are : c.seams ≡ names_of page seams
+  pub basis : c.basis ≡ map (arc polygon) (below (sides polygon))
+  pub strands : c.strands ≡ map (strand_exits (identity polygon)) (below (arc_count polygon))
+  pub fingers : c.fingers ≡ []
+  pub finals : c.finals ≡ map (strand_exits (identity polygon)) (below (arc_count polygon))
+  pub generators_are : c.generators ≡ length (generators (identity polygon))
+  pub contact : c.contact + 1 ≡ c.generators
+  pub points : c.points ≡ contact_generator (identity polygon)
+  pub concludes : Concludes (columns (identity polygon)) c.pivots c.rank c.verdict
+  pub homology : c.homology ≡ pos c.generators -ℤ pos (2 * c.rank)

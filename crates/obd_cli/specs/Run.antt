@@ -1,9 +1,9 @@
 -- What a run owes.
-use Rattle.std.specs.Prelude.{◌≡◌, ◌⊎◌, ℕ, ◌+◌, ◌≤◌, List, [], ◌∷◌, length, codes, Bool, true, false, nat_eq, nat_lt, if◌then◌else◌, is_some, Option, Some, None, option_and_then}
+use Rattle.std.specs.Prelude.{◌≡◌, ◌⊎◌, ℕ, ◌+◌, ◌≤◌, List, [], ◌∷◌, length, codes, Bool, true, false, nat_lt, if◌then◌else◌, is_some, Option, Some, None}
 use Rattle.std.specs.Str.{bytes_eq}
 use Rattle.std.specs.Io.KnownBytes.{Consumes, Appends, IsAtEnd}
 use Rattle.obd_base.specs.Streams.{TookPrefix}
-use Rattle.page_surface.specs.Labels.{Label, labels_of}
+use Rattle.page_surface.specs.Labels.{Label}
 use Rattle.obd_doc.specs.Plain.{plain_book}
 use Rattle.obd_cli.specs.Belongs.{BelongsTo}
 use Rattle.obd_cli.specs.Text.{certificate_text}
@@ -19,13 +19,9 @@ is_command (word ∷ []) = bytes_eq word (codes "decide")
 is_command [] = false
 is_command (word ∷ next ∷ words) = false
 
--- the page, where it has one label
-abbrev pub with_one_label : List (List Label) → Option (List (List Label))
-with_one_label page = if nat_eq (length (labels_of page)) 1 then Some page else None
-
--- the page of the book that the bytes are: a plain book with one label
+-- the page of the book that the bytes are: a plain book
 abbrev pub book_of : List ℕ → Option (List (List Label))
-book_of bytes = option_and_then with_one_label (plain_book bytes)
+book_of bytes = plain_book bytes
 
 -- the answers that aren't a certificate
 abbrev pub usage : Answer

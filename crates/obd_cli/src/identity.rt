@@ -1,16 +1,18 @@
-// The certificate of a book without curves and twists whose page has one label: an annulus.
-ghost use Rattle.std.specs.Prelude.{◌≡◌, ◌<◌, ◌≤◌, [], ◌∷◌, map, length, slice_index_or, IfOk};
+// The certificate of a book without curves and twists.
+ghost use Rattle.std.specs.Prelude.{◌≡◌, ◌<◌, ◌≤◌, ◌*◌, ◌^◌, pos, ◌-ℤ◌, [], map, length, slice_index_or, IfOk};
+ghost use Rattle.std.specs.List.{All};
 ghost use Rattle.page_surface.specs.Labels.{labels_of};
-ghost use Rattle.page_surface.specs.Page.{IsPage};
-ghost use Rattle.page_surface.specs.Polygon.{arc, arc_count, paired, sides};
+ghost use Rattle.page_surface.specs.Polygon.{arc, arc_count, sides};
 ghost use Rattle.obd_base.specs.Lists.{below};
 ghost use Rattle.page_surface.specs.Drawing.{strand_exits};
 ghost use Rattle.drawing.specs.Points.{crossings_of};
-ghost use Rattle.obd_cli.specs.Belongs.{BelongsTo};
+ghost use Rattle.obd_cli.specs.Belongs.{BelongsTo, IsMade, names_of};
 
-use crate::certificate::{Certificate, Verdict};
+use crate::certificate::Certificate;
+use crate::complex::{Complex, complex_of};
+use arc_basis::join;
 use hkm_diagram::{Diagram, first};
-use obd_base::{ArcNo, Exit, GenNo, Items, Name, NoMemory, SideNo, StrandNo};
+use obd_base::{ArcNo, Exit, GenNo, Items, LabelNo, Name, NoMemory, SideNo, StrandNo};
 use page_surface::{Page, Polygon};
 use std::alloc::Global;
 
@@ -81,52 +83,74 @@ fn contact_points(alloc: Global, diagram: &Diagram, count: u32) -> Result<Items<
     Ok(points)
 }
 
-// The polygon of a page with one label: two sides, each the partner of the other.
-fn polygon_of_one_label(alloc: Global) -> Result<Polygon, NoMemory>
-    ensures { IfOk result (λ polygon. polygon ≡ paired (1 ∷ 0 ∷ [])) }
+// The names of some labels of the page.
+fn label_names(alloc: Global, page: &Page, labels: &[LabelNo]) -> Result<Items<Name>, NoMemory>
+    requires { All (λ label. label < length (labels_of page.now)) labels.now }
+    ensures { IfOk result (λ names. names ≡ names_of page.now labels.now) }
 {
-    let pairs = vec![in alloc; SideNo::new(1), SideNo::new(0)]?;
-    Polygon::of(alloc, pairs)
+    let mut names = Items::new(alloc);
+    for label in labels {
+        names.push(Name::from_str(alloc, page.name(*label))?)?;
+    }
+    Ok(names)
 }
 
-// The functional that is one on this row alone.
-fn functional(alloc: Global, row: u32) -> Result<Verdict, NoMemory>
-    ensures { IfOk result (λ verdict. verdict ≡ Verdict.Functional (row ∷ [])) }
+// The number of generators less twice the rank.
+fn homology(generators: u32, rank: u32) -> i32
+    requires few { generators < 2 ^ 30 }
+    requires rank { rank ≤ generators }
+    ensures { result ≡ pos generators -ℤ pos (2 * rank) }
 {
-    let mut rows = Items::new(alloc);
-    rows.push(row)?;
-    Ok(Verdict::Functional(rows))
+    generators as i32 - 2 * rank as i32
 }
 
-/// The certificate of a page with one label, with no curve and no twist. The one strand crosses the one
-/// arc once, so there are two generators, and the two bigons between them cancel: each column is empty,
-/// and the contact generator alone is a functional.
-pub(crate) fn certify(alloc: Global, page: &Page) -> Result<Certificate, NoMemory>
-    requires valid { IsPage page.now }
-    requires one { length (labels_of page.now) ≡ 1 }
-    ensures { IfOk result (BelongsTo page.now) }
+// The certificate of a page with these seams and this joined polygon, with no curve and no twist: the first drawing
+// is the identity drawing, which is nice.
+fn identity_certificate(
+    alloc: Global,
+    page: &Page,
+    seams: &[LabelNo],
+    polygon: &Polygon,
+) -> Result<Certificate, NoMemory>
+    requires { All (λ label. label < length (labels_of page.now)) seams.now }
+    ensures { IfOk result (IsMade page.now seams.now polygon.now) }
 {
-    let polygon = polygon_of_one_label(alloc)?;
-    let diagram = first(alloc, &polygon)?;
-    let generators = diagram.points_of(ArcNo::new(0));
-    let contact = generators - 1;
+    let arcs = polygon.sides() / 2;
+    let diagram = first(alloc, polygon)?;
+    let Complex {
+        generators,
+        outcome,
+    } = complex_of(alloc, &diagram, arcs)?;
+    let homology = homology(generators, outcome.rank);
     Ok(Certificate {
         version: 1,
         polygons: page_labels(alloc, page)?,
         curves: Items::new(alloc),
         slides: Items::new(alloc),
         twists: Items::new(alloc),
-        seams: Items::new(alloc),
-        basis: basis(alloc, &polygon)?,
-        strands: strands(alloc, &diagram, 1)?,
+        seams: label_names(alloc, page, seams)?,
+        basis: basis(alloc, polygon)?,
+        strands: strands(alloc, &diagram, arcs)?,
         fingers: Items::new(alloc),
-        finals: strands(alloc, &diagram, 1)?,
+        finals: strands(alloc, &diagram, arcs)?,
         generators,
-        contact: GenNo::new(contact),
-        points: contact_points(alloc, &diagram, 1)?,
-        pivots: Items::new(alloc),
-        rank: 0,
-        homology: generators as i32,
-        verdict: functional(alloc, contact)?,
+        contact: GenNo::new(generators - 1),
+        points: contact_points(alloc, &diagram, arcs)?,
+        homology,
+        pivots: outcome.pivots,
+        rank: outcome.rank,
+        verdict: outcome.verdict,
     })
+}
+
+/// The certificate of a page of one polygon, with no curve and no twist. A strand crosses its own arc once and no
+/// other arc, so with `n` arcs there are `2^n` generators, at most 256. The two bigons from a crossing point to the
+/// contact point cancel: each column is empty, and the contact generator alone is a functional. Linear in the
+/// generators and in the text that they make.
+pub(crate) fn certify(alloc: Global, page: &Page) -> Result<Certificate, NoMemory>
+    requires { length page.now ≡ 1 }
+    ensures { IfOk result (BelongsTo page.now) }
+{
+    let joined = join(alloc, page)?;
+    identity_certificate(alloc, page, joined.seams(), joined.polygon())
 }

@@ -1,12 +1,12 @@
 //! The program's one call, from its words and the bytes that it reads to the text that it writes.
 //!
-//! `decide` reads a document, an open book, and writes a certificate. The certificate's lines from the
-//! version to the contact generator are a function of the book, which `run` promises. The forms of the
-//! document and the certificate are this project's own.
+//! `decide` reads a document, an open book, and writes a certificate. Every line of it is a function of the
+//! book, which `run` promises. The forms of the document and the certificate are this project's own.
 #![tactic(auto)]
 
-mod annulus;
 mod certificate;
+mod complex;
+mod identity;
 mod line;
 mod status;
 mod top;

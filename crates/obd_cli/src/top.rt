@@ -3,11 +3,10 @@ ghost use Rattle.std.specs.Prelude.{◌≡◌, ◌≢◌, ◌⊎◌, ◌≤◌, 
 ghost use Rattle.std.specs.Io.KnownBytes.{Appends};
 ghost use Rattle.obd_base.specs.Causes.{Rose};
 ghost use Rattle.obd_base.specs.Streams.{TookPrefix};
-ghost use Rattle.page_surface.specs.Labels.{labels_of};
-ghost use Rattle.obd_cli.specs.Run.{AnswersAll, AnswersBook, AnswersLong, CutShort, Decided, IsFault, Owes, Told, book_of, has_text, is_command, status_owed, usage, with_one_label};
+ghost use Rattle.obd_cli.specs.Run.{AnswersAll, AnswersBook, AnswersLong, Certifies, CutShort, Decided, IsFault, Owes, Told, book_of, has_text, is_command, status_owed, usage};
 
-use crate::annulus::certify;
 use crate::certificate::print;
+use crate::identity::certify;
 use crate::status::{Answer, Status};
 use obd_base::{NoMemory, ReadRefusal, Sink, Source, Text, WriteFault, read_all, write_all_of};
 use obd_doc::read_plain;
@@ -38,14 +37,12 @@ fn answer_with(alloc: Global, status: Status, line: &str) -> Result<Answer, NoMe
     Ok(Answer { status, text })
 }
 
-// The answer to a page: its certificate where it has one label, and else that such books aren't built.
+// The answer to a page: its certificate.
 fn answer_to_page(alloc: Global, page: &Page) -> Result<Answer, NoMemory>
-    ensures answered { IfOk result (AnswersBook (with_one_label page.now)) }
+    requires { length page.now ≡ 1 }
+    ensures answered { IfOk result (Certifies page.now) }
     ensures settled { IfOk result (λ answer. has_text answer.status ≡ true) }
 {
-    if page.label_count() != 1 {
-        return answer_with(alloc, Status::Refused, NOT_BUILT);
-    }
     let certificate = certify(alloc, page)?;
     Ok(Answer {
         status: Status::Done,

@@ -1,5 +1,5 @@
 use Rattle.std.proofs.Common.{◌≡◌, take}
-use Rattle.obd_cli.proofs.annulus.page_labels.Given as goal
+use Rattle.obd_cli.proofs.identity.page_labels.Given as goal
 
 -- the polygons so far
 abbrev pub invariant-loop-polygon : goal.invariant-loop-polygon

@@ -1,7 +1,7 @@
 use Rattle.std.proofs.Common.{◌≡◌, ◌<◌, [], get_or, length, arith, ◌∙◌}
 use Rattle.page_surface.proofs.Names.{side_label_in_range, side_named}
 use Rattle.obd_cli.proofs.Named.{labels_more, same_some}
-use Rattle.obd_cli.proofs.annulus.polygon_labels.Goals as goal
+use Rattle.obd_cli.proofs.identity.polygon_labels.Goals as goal
 
 pub name-requires : goal.name-requires
 name-requires c =

@@ -1,5 +1,5 @@
 use Rattle.std.proofs.Common.{◌≡◌, [], take, get_or}
-use Rattle.obd_cli.proofs.annulus.polygon_labels.Given as goal
+use Rattle.obd_cli.proofs.identity.polygon_labels.Given as goal
 
 -- the labels of the sides so far
 abbrev pub invariant-loop-side : goal.invariant-loop-side

@@ -1,7 +1,7 @@
 use Rattle.std.proofs.Common.{◌∙◌, ap}
 use Rattle.page_surface.specs.Drawing.{strand_exits}
 use Rattle.obd_cli.proofs.Collected.{collected_more}
-use Rattle.obd_cli.proofs.annulus.strands.Goals as goal
+use Rattle.obd_cli.proofs.identity.strands.Goals as goal
 
 pub loop-number-preserved : goal.loop-number-preserved
 loop-number-preserved c =
