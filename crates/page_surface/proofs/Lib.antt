@@ -5,12 +5,12 @@ pub mod Examples
 mod Filled
 mod Firsts
 mod Keys
-mod LabelNumbers
+pub mod LabelNumbers
 pub mod Laws
 pub mod Names
 mod Numbered
 pub mod Partners
 mod Rules
-mod Sides
+pub mod Sides
 mod Tables
 pub mod WordLaws

@@ -12,7 +12,7 @@ use Rattle.page_surface.proofs.LabelNumbers.{has, has_new, number_new, number_st
 use Rattle.page_surface.proofs.FewSides.{among_with_labels}
 
 -- a label that is among the labels stands at its number
-at_number : (labels : List Label) (label : Label) → has labels label ≡ true → slice_get labels (label_number labels label) ≡ Some label
+pub at_number : (labels : List Label) (label : Label) → has labels label ≡ true → slice_get labels (label_number labels label) ≡ Some label
 at_number [] label h = absurd (false≢true h)
 at_number (x ∷ labels) label h = elim (cases_Bool (bytes_eq label x)) [
   | inl same ↦ rw same (ap Some (sym ((bytes_eq-Decides label x).0 same)))
@@ -22,7 +22,7 @@ at_number (x ∷ labels) label h = elim (cases_Bool (bytes_eq label x)) [
 ]
 
 -- the number that a side gets stays after the sides that follow
-number_kept : (appeared : List Label) (x : Label) (names : List Label) → label_number (with_labels appeared (x ∷ names)) x ≡ label_number appeared x
+pub number_kept : (appeared : List Label) (x : Label) (names : List Label) → label_number (with_labels appeared (x ∷ names)) x ≡ label_number appeared x
 number_kept appeared x names = elim (cases_Bool (has appeared x)) [
   | inl old ↦ number_stays appeared (x ∷ names) x old
   | inr new ↦ number_stays (with_label appeared x) names x (has_new appeared x) ∙ number_new appeared x new
