@@ -6,7 +6,7 @@ use Rattle.obd_base.specs.declared.points.Exit.{Exit}
 use Rattle.obd_base.specs.declared.points.Sign.{Sign}
 use Rattle.obd_base.specs.declared.points.Sign.TheVariants.{Plus, Minus}
 use Rattle.page_surface.specs.Drawing.{Chord, crosses, exit, is_at}
-use Rattle.page_surface.specs.Polygon.{Polygon, arc_count, first_side, partner, second_side, sides}
+use Rattle.page_surface.specs.Polygon.{IsPolygon, Polygon, arc_count, first_side, partner, second_side, sides}
 use Rattle.page_surface.specs.Words.{inverse, reduced}
 
 -- the points of the curve on a side: its exits, and its entries there
@@ -47,6 +47,12 @@ pub record IsCurve (p : Polygon) (c : List Exit) : Type 0 where
   pub in_range : (e : Exit) → Mem e c → (e.side < sides p) × (e.place < curve_points p c e.side)
   pub right : (k j : ℕ) → k < sides p → j < curve_points p c k → sum_by (λ e. curve_stands p c e k j) c ≡ 1
   pub uncrossed : (a b : ℕ) → a < b → b < length c → crosses (curve_chord p c a) (curve_chord p c b) ≡ false
+
+-- that is a curve of some polygon
+pub record IsSomeCurve (c : List Exit) : Type 0 where
+  pub polygon : Polygon
+  pub is_polygon : IsPolygon polygon
+  pub is_curve : IsCurve polygon c
 
 -- the same as a test
 abbrev pub is_curve_list : Polygon → List Exit → Bool

@@ -1,1 +1,2 @@
+pub mod CurveTables
 pub mod Curves

@@ -94,11 +94,17 @@ pub none_found : {A : Type 0} (f : A → PageRefusal) (found : Option A) → opt
 none_found f None none = refl
 none_found f (Some found) none = absurd (let bad = none in cc)
 
+-- a page has at most two sides for each of its labels
+pub two_a_label : (polygons : List (List Label)) → IsPage polygons → length (all_sides polygons) ≤ 2 * length (labels_of polygons)
+two_a_label polygons page =
+    let rules = none_refuses (refusals polygons) page in
+    let twice = twice_each (occurrences_of polygons) (labels_of polygons) (none_found (λ label. LabelCount label (occurrences_of polygons label)) _ rules.1.1.1.1.0) in
+    let counted = sides_counted (all_sides polygons) (labels_of polygons) (sides_among_with_labels (all_sides polygons) []) in
+    omega (arith, twice, counted)
+
 -- a page has at most 48 sides
 pub few_sides : (polygons : List (List Label)) → IsPage polygons → length (all_sides polygons) ≤ 48
 few_sides polygons page =
     let rules = none_refuses (refusals polygons) page in
     let few_labels = ltb-false 24 _ (holds_where_none (ltb 24 (length (labels_of polygons))) (TooManyLabels (length (labels_of polygons))) rules.1.1.1.0) in
-    let twice = twice_each (occurrences_of polygons) (labels_of polygons) (none_found (λ label. LabelCount label (occurrences_of polygons label)) _ rules.1.1.1.1.0) in
-    let counted = sides_counted (all_sides polygons) (labels_of polygons) (sides_among_with_labels (all_sides polygons) []) in
-    omega (arith, few_labels, twice, counted)
+    omega (arith, few_labels, two_a_label polygons page)

@@ -10,7 +10,7 @@ use Rattle.page_surface.specs.Labels.{Label, all_sides, with_label, with_labels,
 
 module _ {X : Type 0} (p : X → Bool) where
   -- the first that passes, where one does
-  first_below : (xs : List X) → list_any p xs ≡ true → position_or_len p xs < length xs
+  pub first_below : (xs : List X) → list_any p xs ≡ true → position_or_len p xs < length xs
   first_below [] h = absurd (false≢true h)
   first_below (x ∷ xs) h = go (p x) h (first_below xs)
     where
@@ -20,7 +20,7 @@ module _ {X : Type 0} (p : X → Bool) where
       go false h ih = omega (arith, ih h)
 
   -- the length, where none does
-  first_none : (xs : List X) → list_any p xs ≡ false → position_or_len p xs ≡ length xs
+  pub first_none : (xs : List X) → list_any p xs ≡ false → position_or_len p xs ≡ length xs
   first_none [] h = refl
   first_none (x ∷ xs) h = go (p x) h (first_none xs)
     where
@@ -30,11 +30,11 @@ module _ {X : Type 0} (p : X → Bool) where
       go false h ih = omega (arith, ih h)
 
   -- the first that passes stays before one more
-  first_push : (xs : List X) (y : X) → list_any p xs ≡ true → position_or_len p (xs ++ y ∷ []) ≡ position_or_len p xs
+  pub first_push : (xs : List X) (y : X) → list_any p xs ≡ true → position_or_len p (xs ++ y ∷ []) ≡ position_or_len p xs
   first_push xs y h = position_or_len_push p xs y ∙ cond-false _ _ _ (ne_eqb (position_or_len p xs) (length xs) (λ e. omega (arith, first_below xs h)))
 
   -- or is that one
-  first_at_push : (xs : List X) (y : X) → list_any p xs ≡ false → p y ≡ true → position_or_len p (xs ++ y ∷ []) ≡ length xs
+  pub first_at_push : (xs : List X) (y : X) → list_any p xs ≡ false → p y ≡ true → position_or_len p (xs ++ y ∷ []) ≡ length xs
   first_at_push xs y h q = position_or_len_push p xs y ∙ (cond-true _ _ _ (eq-eqb _ _ (first_none xs h)) ∙ rw q (omega arith))
 
   -- whether one passes, with one more

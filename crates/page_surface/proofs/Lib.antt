@@ -1,11 +1,11 @@
-pub mod FewSides
+mod Empty
 pub mod EmbeddedTest
 pub mod Examples
-mod Empty
+pub mod FewSides
 mod Filled
 mod Firsts
 mod Keys
-mod LabelNumbers
+pub mod LabelNumbers
 pub mod Laws
 pub mod Names
 mod Numbered
@@ -14,7 +14,7 @@ mod ReachedMarks
 mod ReadSoFar
 mod SideNumbers
 mod SideTables
-mod Sides
+pub mod Sides
 mod Tables
 pub mod WordLaws
 mod WrongLabels

@@ -1,0 +1,5 @@
+mod LabelCounts
+pub mod Laws
+mod Paired
+pub mod Places
+mod Tables

@@ -1,0 +1,96 @@
+// The basis of a page, and how a page is joined to it.
+ghost use Rattle.std.specs.Prelude.{◌≡◌, ◌<◌, ◌≤◌, ◌↔◌, [], length, position, None, IfOk};
+ghost use Rattle.obd_base.specs.Lists.{Mem};
+ghost use Rattle.page_surface.specs.Joining.{side, is_side, joined};
+ghost use Rattle.arc_basis.specs.Basis.{joined_sides, joined_polygon, label_count};
+
+use crate::sides::{partners, polygon_sides, side_in, side_table};
+use obd_base::{Items, LabelNo, NoMemory, SideNo};
+use page_surface::{Page, Polygon, SideLabel};
+use std::alloc::Global;
+use std::marker::Model;
+
+/// The basis of arcs of a page. Contracts see it as what joining leaves: the polygons, each the list of its
+/// sides by label and occurrence, and the seams. Its type keeps that one polygon is left, and that each label
+/// has both of its sides on it; for now there is no seam.
+#[derive(Drop)]
+pub struct Basis {
+    sides: Items<SideLabel>,
+    polygon: Polygon,
+    first_sides: Items<Option<SideNo>>,
+    second_sides: Items<Option<SideNo>>,
+    seams: Items<LabelNo>,
+}
+
+impl Model for Basis {
+    ghost use Rattle.page_surface.specs.Joining.{Joined};
+    ghost use Rattle.arc_basis.specs.BasisTables.{AreBasisTables, of_sides};
+
+    ghost Value = { Joined };
+
+    ghost view = { λ b. of_sides b.sides b.seams };
+
+    ghost invariant = { λ b. AreBasisTables b.sides b.polygon b.first_sides b.second_sides b.seams };
+}
+
+/// Joins the polygons of a page to one, along its labels by number. For now the page has one polygon, which
+/// stays as it is, so there is no seam.
+///
+/// Linear in the sides and the labels.
+pub fn join(alloc: Global, page: &Page) -> Result<Basis, NoMemory>
+    requires one { length page.now ≡ 1 }
+    ensures { IfOk result (λ basis. basis ≡ joined page.now) }
+{
+    let sides = polygon_sides(alloc, page, 0)?;
+    let label_count = page.label_count();
+    let first_sides = side_table(alloc, sides.as_slice(), label_count, 0)?;
+    let second_sides = side_table(alloc, sides.as_slice(), label_count, 1)?;
+    let pairs = partners(
+        alloc,
+        sides.as_slice(),
+        first_sides.as_slice(),
+        second_sides.as_slice(),
+    )?;
+    let polygon = Polygon::of(alloc, pairs)?;
+    Ok(Basis {
+        sides,
+        polygon,
+        first_sides,
+        second_sides,
+        seams: Items::new(alloc),
+    })
+}
+
+impl Basis {
+    /// The polygon that is left, each side glued to the other side of its label. Constant time, as are the
+    /// calls below; all take no memory.
+    pub fn polygon(&self) -> &Polygon
+        ensures { result.now ≡ joined_polygon self.now }
+    {
+        &self.polygon
+    }
+
+    /// The labels along which polygons were joined, in the order of joining. For now there is none.
+    pub fn seams(&self) -> &[LabelNo]
+        ensures value { result.now ≡ self.now.seams }
+        ensures none { self.now.seams ≡ [] }
+        ensures one { length self.now.polygons ≡ 1 }
+    {
+        self.seams.as_slice()
+    }
+
+    /// The side of the polygon that an occurrence of a label has become, and `None` exactly for a seam.
+    pub fn side(&self, label: LabelNo, occurrence: u8) -> Option<SideNo>
+        requires label { label < label_count self.now }
+        requires occurrence { occurrence ≤ 1 }
+        ensures value { result ≡ position (is_side (side label occurrence)) (joined_sides self.now) }
+        ensures seam { (result ≡ None) ↔ Mem label self.now.seams }
+    {
+        side_in(
+            self.first_sides.as_slice(),
+            self.second_sides.as_slice(),
+            label,
+            occurrence,
+        )
+    }
+}
