@@ -1,0 +1,18 @@
+-- The letters of reduced forms and of inverses.
+use Rattle.std.proofs.Common.{Bool, true, false, cond, List, [], ◌∷◌, inl, inr}
+use Rattle.obd_base.specs.Lists.{Mem}
+use Rattle.path_words.specs.Alphabet.{Alphabet, push, cancelled}
+
+module _ {A : Type 0} (L : Alphabet A) where
+  mem_push : (x z : A) (w : List A) → Mem z (push L x w) → Mem z (x ∷ w)
+  mem_push x z [] m = m
+  mem_push x z (y ∷ w) m = go (L.same (L.inv x) y) m
+    where
+      go : (b : Bool) → Mem z (cond b w (x ∷ y ∷ w)) → Mem z (x ∷ y ∷ w)
+      go true m = inr (inr m)
+      go false m = m
+
+  -- the letters of a reduced form are letters of the word
+  pub from_cancelled : (w : List A) (z : A) → Mem z (cancelled L w) → Mem z w
+  from_cancelled [] z m = m
+  from_cancelled (x ∷ w) z m = elim (mem_push x z (cancelled L w) m) [ inl e ↦ inl e | inr k ↦ inr (from_cancelled w z k) ]
