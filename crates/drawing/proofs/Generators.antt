@@ -113,11 +113,10 @@ bounds_last [] = ([], refl)
 bounds_last (b ∷ bounds) =
     let (before, is) = bounds_last bounds in
     let begun = λ (j : ℕ). map (λ list. j ∷ list) (all_lists bounds) in
-    let last : begun b ≡ map (λ list. b ∷ list) before ++ (b ∷ bounds) ∷ [] = ap (map (λ list. b ∷ list)) is ∙ map-append (λ list. b ∷ list) before (bounds ∷ []) in
-    (
+    let last : begun b ≡ map (λ list. b ∷ list) before ++ (b ∷ bounds) ∷ [] = ap (map (λ list. b ∷ list)) is ∙ map-append (λ list. b ∷ list) before (bounds ∷ []) in (
       flat_map begun (below b) ++ map (λ list. b ∷ list) before,
       ap (flat_map begun) (below_push b) ∙ (flat_map-append begun (below b) (b ∷ [])
-      ∙ (ap (λ lists. flat_map begun (below b) ++ lists) (append-nil (begun b) ∙ last) ∙ sym (append_assoc (flat_map begun (below b)) (map (λ list. b ∷ list) before) ((b ∷ bounds) ∷ [])))),
+          ∙ (ap (λ lists. flat_map begun (below b) ++ lists) (append-nil (begun b) ∙ last) ∙ sym (append_assoc (flat_map begun (below b)) (map (λ list. b ∷ list) before) ((b ∷ bounds) ∷ [])))),
     )
 
 -- the contact point of an arc is on the arc's own strand

@@ -1,7 +1,7 @@
 -- The tests of fingers and of generators say what the records say.
-use Rattle.std.proofs.Common.{◌≡◌, ℕ, ◌<◌, ◌≤◌, true, eqb, ltb, leb, not, ◌&&◌, List, [], ◌∷◌, length, get_or, refl, sym, ◌∙◌, ap, inl, inr}
-use Rattle.std.proofs.lemmas.Bool.{and_parts, and_from, eqb-true, eq-eqb, false≢true, leb-true, le-leb, lt-ltb, ltb-true, not-true, or_cases, or_left, or_right, false_from_ne_true}
-use Rattle.obd_base.specs.Lists.{Mem, Once, has}
+use Rattle.std.proofs.Common.{◌≡◌, ℕ, ◌<◌, ◌≤◌, true, ltb, leb, not, ◌&&◌, List, [], ◌∷◌, length, get_or, refl, sym, ◌∙◌, ap}
+use Rattle.std.proofs.lemmas.Bool.{and_parts, and_from, false≢true, leb-true, le-leb, lt-ltb, ltb-true, not-true, false_from_ne_true}
+use Rattle.obd_base.specs.Lists.{Once, has}
 use Rattle.page_surface.specs.Drawing.{Drawing, exit, points_on, spot, strand_exits}
 use Rattle.page_surface.specs.Polygon.{arc_count, sides}
 use Rattle.drawing.specs.Fingers.{Finger, IsLegal, borders, chord_at, is_legal}

@@ -1,16 +1,15 @@
 -- The diagram of the identity drawing: its generators are all lists of crossing and contact points, and each column is empty.
-use Rattle.std.proofs.Common.{◌≡◌, ℕ, zero, suc, ◌+◌, ◌*◌, ◌^◌, ◌<◌, ◌≤◌, false, true, Bool, List, [], ◌∷◌, length, map, filter, get_or, refl, sym, ◌∙◌, ap, subst, arith, inl, inr}
-use Rattle.std.specs.List.{flat_map, range_with_len}
+use Rattle.std.proofs.Common.{◌≡◌, ℕ, zero, suc, ◌+◌, ◌*◌, ◌^◌, ◌<◌, ◌≤◌, true, Bool, List, [], ◌∷◌, length, map, filter, get_or, refl, sym, ◌∙◌, ap, subst, arith, inl, inr}
+use Rattle.std.specs.List.{flat_map}
 use Rattle.std.proofs.Math.Nat.{pow-suc}
 use Rattle.std.proofs.lemmas.Bool.{false≢true}
 use Rattle.std.proofs.lemmas.List.{length-append, length-map}
-use Rattle.std.proofs.lemmas.List.FromFn.{length-range_with_len}
 use Rattle.obd_base.specs.Lists.{Mem, below, is_odd}
 use Rattle.obd_base.proofs.lists.Below.{mem_below}
 use Rattle.obd_base.proofs.lists.Members.{mem_filter}
 use Rattle.page_surface.specs.Polygon.{Polygon, IsPolygon, arc_count, second_side}
 use Rattle.page_surface.specs.Drawing.{exit, identity, strand_exits}
-use Rattle.drawing.specs.Points.{all_lists, contact_generator, crossings_of, generators, is_generator}
+use Rattle.drawing.specs.Points.{all_lists, contact_generator, generators, is_generator}
 use Rattle.drawing.proofs.Generators.{bound_at, bound_count, bounded, listed_is_generator, own_is_generator}
 use Rattle.hkm_diagram.specs.Domains.{column, columns, domains}
 use Rattle.hkm_diagram.proofs.Identity.{one_crossing, strand_at, strand_is}

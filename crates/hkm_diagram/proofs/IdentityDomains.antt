@@ -1,24 +1,23 @@
 -- The domains of the identity drawing: two bigons from the crossing point of an arc to its contact point, and no others.
-use Rattle.std.proofs.Common.{◌≡◌, ℕ, zero, suc, ◌+◌, ◌-◌, ◌*◌, ◌<◌, ◌≤◌, Bool, true, false, cond, eqb, not, ◌||◌, List, [], ◌∷◌, length, map, get_or, refl, sym, ◌∙◌, ap, subst, arith, zero-add, add-zero, ◌⊎◌, inl, inr, ◌≢◌}
-use Rattle.std.specs.List.{count_by, range_with_len, sum_by}
-use Rattle.std.proofs.lemmas.Bool.{cases_Bool, cases_eq, eqb-true, eq-eqb, ne_eqb, false≢true, not_from_true}
+use Rattle.std.proofs.Common.{◌≡◌, ℕ, zero, suc, ◌+◌, ◌-◌, ◌*◌, ◌<◌, ◌≤◌, Bool, true, false, cond, eqb, not, ◌||◌, List, [], ◌∷◌, length, get_or, refl, sym, ◌∙◌, ap, subst, arith, add-zero, ◌⊎◌, inl, inr, ◌≢◌}
+use Rattle.std.specs.List.{count_by, sum_by}
+use Rattle.std.proofs.lemmas.Bool.{cases_Bool, cases_eq, eq-eqb, ne_eqb, false≢true, not_from_true}
 use Rattle.std.proofs.lemmas.List.Sums.{sum_by-cons}
 use Rattle.obd_base.specs.Lists.{Mem, Once, below, has, is_odd, parts}
-use Rattle.obd_base.proofs.lists.Below.{below_mem}
-use Rattle.obd_base.proofs.lists.Counts.{count_none, count_one, passing_counted, some_counted}
+use Rattle.obd_base.proofs.lists.Counts.{count_one, passing_counted, some_counted}
 use Rattle.obd_base.proofs.lists.Members.{mem_left, mem_right}
 use Rattle.obd_base.proofs.lists.Parts.{mem_parts}
-use Rattle.page_surface.specs.Polygon.{Polygon, IsPolygon, arc, arc_count, first_side, partner, second_side, sides}
-use Rattle.page_surface.specs.Drawing.{Drawing, exit, identity, spot}
+use Rattle.page_surface.specs.Polygon.{Polygon, IsPolygon, arc, arc_count, first_side, second_side, sides}
+use Rattle.page_surface.specs.Drawing.{exit, identity, spot}
 use Rattle.drawing.specs.Pieces.{corners, inner_pieces, piece_table}
 use Rattle.drawing.specs.Points.{crossings_of, from_spans, to_spans}
 use Rattle.drawing.proofs.Lists.{has_mem, mem_has, mem_to_map}
-use Rattle.hkm_diagram.specs.Domains.{IsDomain, PointRule, domains, met, moved, stands_in}
+use Rattle.hkm_diagram.specs.Domains.{IsDomain, PointRule, domains, met, stands_in}
 use Rattle.hkm_diagram.proofs.ContactColumn.{in_is, in_is_last, mark, out_is, out_is_last}
 use Rattle.hkm_diagram.proofs.ContactLaw.{base_unmarked}
 use Rattle.hkm_diagram.proofs.Identity.{one_crossing, same_from_first, same_from_second, sides_apart}
 use Rattle.hkm_diagram.proofs.IdentityPieces.{base_start, bigon, bigon_corners, bigon_listed, listed_bigon, second_in_range, spans_are, spot_is, table_bigon}
-use Rattle.hkm_diagram.proofs.Laws.{domain_found, each_domain_once, found_domain}
+use Rattle.hkm_diagram.proofs.Laws.{domain_found, each_domain_once}
 
 -- the marks of two spans, each by another number
 same_marks : (m : ℕ → ℕ) (q r t u : ℕ) → q ≡ r → t ≡ u → m q + m t ≡ m r + m u
@@ -161,12 +160,12 @@ module _ (p : Polygon) (ok : IsPolygon p) where
       arc_member h = elim (cases_Bool (has set (first_bigon a))) [
         | inl i ↦ (first_bigon a, mem_has set _ i, inl refl)
         | inr i ↦ elim (cases_Bool (has set (second_bigon a))) [
-            | inl j ↦ (second_bigon a, mem_has set _ j, inr refl)
-            | inr j ↦
-                let m : mark (identity p) set (first_bigon a) ≡ 0 = mark_bigon (first_side p a) (ok.first_in_range a la) ∙ rw i in
-                let n : mark (identity p) set (second_bigon a) ≡ 0 = mark_bigon (second_side p a) (second_in_range p ok a la) ∙ rw j in
-                absurd (omega (arith, m, n, h))
-          ]
+          | inl j ↦ (second_bigon a, mem_has set _ j, inr refl)
+          | inr j ↦
+              let m : mark (identity p) set (first_bigon a) ≡ 0 = mark_bigon (first_side p a) (ok.first_in_range a la) ∙ rw i in
+              let n : mark (identity p) set (second_bigon a) ≡ 0 = mark_bigon (second_side p a) (second_in_range p ok a la) ∙ rw j in
+              absurd (omega (arith, m, n, h))
+        ]
       ]
 
     -- each member is a bigon of an arc, and counted there
@@ -219,17 +218,17 @@ module _ (p : Polygon) (ok : IsPolygon p) where
               | inr e ↦ let (q, m, of) = arc_member set dom.inner a la (omega (arith, e.2)) in absurd (no_member set q z m)
             ]
         | inr nz ↦ elim (cases_eq (count_by differs (below (arc_count p))) 0) [
-            | inl z ↦
-                let (q, m) = some_member set nz in
-                let (a, la, of, counted) = member_arc set dom.inner q m in
-                elim (at_arc a la) [
-                  | inl e ↦ absurd (omega (arith, counted, e.1))
-                  | inr e ↦
-                      let d : differs a ≡ true = rw (e.0, e.1) in
-                      absurd (omega (arith, z, passing_counted differs 0 (arc_count p) a (omega arith) (omega (arith, la)) d))
-                ]
-            | inr nz' ↦ omega (arith, total)
-          ]
+          | inl z ↦
+              let (q, m) = some_member set nz in
+              let (a, la, of, counted) = member_arc set dom.inner q m in
+              elim (at_arc a la) [
+                | inl e ↦ absurd (omega (arith, counted, e.1))
+                | inr e ↦
+                    let d : differs a ≡ true = rw (e.0, e.1) in
+                    absurd (omega (arith, z, passing_counted differs 0 (arc_count p) a (omega arith) (omega (arith, la)) d))
+              ]
+          | inr nz' ↦ omega (arith, total)
+        ]
       ]
 
       -- so it is one bigon, of the arc that moves
@@ -276,17 +275,17 @@ module _ (p : Polygon) (ok : IsPolygon p) where
         let second = mark_alone k (second_side p b) (second_in_range p ok b lb) in
         elim (cases_eq b a) [
           | inl e ↦ elim of [
-              | inl i ↦
-                  let f : cond {A = ℕ} (eqb (first_bigon b) (bigon p ok k)) 1 0 ≡ 1 = rw (eq-eqb (first_bigon b) (bigon p ok k) (ap first_bigon e ∙ sym i)) refl in
-                  let s : cond {A = ℕ} (eqb (second_bigon b) (bigon p ok k)) 1 0 ≡ 0 = rw (ne_eqb (second_bigon b) (bigon p ok k) (λ q. sides_apart p ok b a lb la (omega (arith, q, i)))) refl in
-                  let one : cond {A = ℕ} (eqb b a) 1 0 ≡ 1 = rw (eq-eqb b a e) refl in
-                  omega (arith, first, second, f, s, one)
-              | inr i ↦
-                  let f : cond {A = ℕ} (eqb (first_bigon b) (bigon p ok k)) 1 0 ≡ 0 = rw (ne_eqb (first_bigon b) (bigon p ok k) (λ q. sides_apart p ok a b la lb (omega (arith, q, i)))) refl in
-                  let s : cond {A = ℕ} (eqb (second_bigon b) (bigon p ok k)) 1 0 ≡ 1 = rw (eq-eqb (second_bigon b) (bigon p ok k) (ap second_bigon e ∙ sym i)) refl in
-                  let one : cond {A = ℕ} (eqb b a) 1 0 ≡ 1 = rw (eq-eqb b a e) refl in
-                  omega (arith, first, second, f, s, one)
-            ]
+            | inl i ↦
+                let f : cond {A = ℕ} (eqb (first_bigon b) (bigon p ok k)) 1 0 ≡ 1 = rw (eq-eqb (first_bigon b) (bigon p ok k) (ap first_bigon e ∙ sym i)) refl in
+                let s : cond {A = ℕ} (eqb (second_bigon b) (bigon p ok k)) 1 0 ≡ 0 = rw (ne_eqb (second_bigon b) (bigon p ok k) (λ q. sides_apart p ok b a lb la (omega (arith, q, i)))) refl in
+                let one : cond {A = ℕ} (eqb b a) 1 0 ≡ 1 = rw (eq-eqb b a e) refl in
+                omega (arith, first, second, f, s, one)
+            | inr i ↦
+                let f : cond {A = ℕ} (eqb (first_bigon b) (bigon p ok k)) 1 0 ≡ 0 = rw (ne_eqb (first_bigon b) (bigon p ok k) (λ q. sides_apart p ok a b la lb (omega (arith, q, i)))) refl in
+                let s : cond {A = ℕ} (eqb (second_bigon b) (bigon p ok k)) 1 0 ≡ 1 = rw (eq-eqb (second_bigon b) (bigon p ok k) (ap second_bigon e ∙ sym i)) refl in
+                let one : cond {A = ℕ} (eqb b a) 1 0 ≡ 1 = rw (eq-eqb b a e) refl in
+                omega (arith, first, second, f, s, one)
+          ]
           | inr ne ↦
               let f : cond {A = ℕ} (eqb (first_bigon b) (bigon p ok k)) 1 0 ≡ 0 = rw (ne_eqb (first_bigon b) (bigon p ok k) (λ q. ne (one_arc (bigon p ok k) b a lb la (inl (sym q)) of))) refl in
               let s : cond {A = ℕ} (eqb (second_bigon b) (bigon p ok k)) 1 0 ≡ 0 = rw (ne_eqb (second_bigon b) (bigon p ok k) (λ q. ne (one_arc (bigon p ok k) b a lb la (inr (sym q)) of))) refl in
@@ -337,9 +336,9 @@ module _ (p : Polygon) (ok : IsPolygon p) where
             (λ set m. elim m [
               | inl e ↦ subst (IsDomain (identity p) y x) (sym e) (bigon_is_domain a (first_side p a) moves (ok.first_in_range a moves.arc) (inl refl))
               | inr n ↦ elim n [
-                  | inl e ↦ subst (IsDomain (identity p) y x) (sym e) (bigon_is_domain a (second_side p a) moves (second_in_range p ok a moves.arc) (inr refl))
-                  | inr never ↦ absurd never
-                ]
+                | inl e ↦ subst (IsDomain (identity p) y x) (sym e) (bigon_is_domain a (second_side p a) moves (second_in_range p ok a moves.arc) (inr refl))
+                | inr never ↦ absurd never
+              ]
             ])
             (λ set dom. elim (of_moving set dom a moves) [ inl e ↦ inl e | inr e ↦ inr (inl e) ]))
           where

@@ -1,7 +1,7 @@
 -- The pieces of the identity drawing: a bigon at the end of each side, and one base piece.
-use Rattle.std.proofs.Common.{◌≡◌, ℕ, zero, suc, ◌+◌, ◌*◌, ◌/◌, ◌%◌, ◌<◌, ◌≤◌, Bool, true, false, not, eqb, List, [], ◌∷◌, length, get_or, map, subst, refl, sym, ◌∙◌, ap, arith, zero-add, add-zero, le_refl, ◌⊎◌, inl, inr, ◌≢◌}
+use Rattle.std.proofs.Common.{◌≡◌, ℕ, zero, suc, ◌+◌, ◌*◌, ◌/◌, ◌%◌, ◌<◌, ◌≤◌, Bool, true, false, not, eqb, List, [], ◌∷◌, get_or, map, subst, refl, sym, ◌∙◌, ap, arith, zero-add, add-zero, le_refl, ◌⊎◌, inl, inr, ◌≢◌}
 use Rattle.std.specs.List.{count_by, list_any, sum_by, range_with_len}
-use Rattle.std.proofs.lemmas.Bool.{cases_eq, cases_lt, eqb-true, eq-eqb, false≢true, false_from_ne_true, lt-ltb, le-ltb, not_from_true}
+use Rattle.std.proofs.lemmas.Bool.{cases_eq, cases_lt, eq-eqb, false≢true, false_from_ne_true, lt-ltb, le-ltb, not_from_true}
 use Rattle.std.proofs.lemmas.List.Folds.{list_any_at}
 use Rattle.std.proofs.lemmas.List.Sums.{sum_by-cons, length-filter}
 use Rattle.std.proofs.lemmas.List.FromFn.{get_or-map-range_with_len, length-map-range_with_len}
@@ -72,13 +72,13 @@ module _ (p : Polygon) (ok : IsPolygon p) where
   beyond_at : (c : Chord) (k q : ℕ) → IsAt c k → q ≢ bigon k → beyond c q ≡ false
   beyond_at c k q h ne = elim h.ends [
     | inl e ↦ elim (cases_lt (3 * k) q) [
-        | inl l ↦ rw (lt-ltb c.from q (omega arith), lt-ltb c.to q (omega arith))
-        | inr l ↦ rw (le-ltb c.from q (omega arith), le-ltb c.to q (omega arith))
-      ]
+      | inl l ↦ rw (lt-ltb c.from q (omega arith), lt-ltb c.to q (omega arith))
+      | inr l ↦ rw (le-ltb c.from q (omega arith), le-ltb c.to q (omega arith))
+    ]
     | inr e ↦ elim (cases_lt (3 * k) q) [
-        | inl l ↦ rw (lt-ltb c.from q (omega arith), lt-ltb c.to q (omega arith))
-        | inr l ↦ rw (le-ltb c.from q (omega arith), le-ltb c.to q (omega arith))
-      ]
+      | inl l ↦ rw (lt-ltb c.from q (omega arith), lt-ltb c.to q (omega arith))
+      | inr l ↦ rw (le-ltb c.from q (omega arith), le-ltb c.to q (omega arith))
+    ]
   ]
 
   beyond_own : (c : Chord) (k : ℕ) → IsAt c k → beyond c (bigon k) ≡ true
@@ -193,7 +193,7 @@ module _ (p : Polygon) (ok : IsPolygon p) where
       elim (cases_eq (q % 3) 0) [
         | inl e ↦ absurd (free (let w : q ≡ 3 * (q / 3) = omega arith in rw w (base_start (q / 3) (omega arith))))
         | inr e ↦ elim (cases_eq (q % 3) 1) [
-            | inl one ↦ (q / 3, omega arith, omega arith)
-            | inr two ↦ absurd (free (let w : q ≡ 3 * (q / 3) + 2 = omega arith in rw w (base_gap (q / 3) (omega arith))))
-          ]
+          | inl one ↦ (q / 3, omega arith, omega arith)
+          | inr two ↦ absurd (free (let w : q ≡ 3 * (q / 3) + 2 = omega arith in rw w (base_gap (q / 3) (omega arith))))
+        ]
       ]

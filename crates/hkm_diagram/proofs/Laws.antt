@@ -1,10 +1,10 @@
 -- Domains as sets of pieces: the test tells the facts, each is counted once, and none starts at the contact generator.
-use Rattle.std.proofs.Common.{◌≡◌, ℕ, zero, suc, ◌+◌, ◌<◌, true, not, eqb, List, [], ◌∷◌, length, map, get_or, refl, sym, ◌∙◌, ap, subst, arith, inl, inr}
+use Rattle.std.proofs.Common.{◌≡◌, ℕ, zero, suc, ◌+◌, ◌<◌, true, not, List, [], ◌∷◌, length, map, get_or, refl, sym, ◌∙◌, ap, subst, arith, inl}
 use Rattle.std.specs.Bool.{Decides}
 use Rattle.std.specs.List.{list_any, range_with_len, sum_by}
-use Rattle.std.proofs.lemmas.Bool.{cases_Bool, eq-eqb, eqb-true, false≢true}
+use Rattle.std.proofs.lemmas.Bool.{false≢true}
 use Rattle.std.proofs.lemmas.List.Sums.{sum_by-cons}
-use Rattle.obd_base.specs.Lists.{Mem, Once, below, has, is_odd, parts}
+use Rattle.obd_base.specs.Lists.{Mem, Once, below, is_odd, parts}
 use Rattle.obd_base.proofs.lists.Members.{filter_mem, mem_filter, once_filter}
 use Rattle.obd_base.proofs.lists.Parts.{each_once, mem_parts}
 use Rattle.obd_base.proofs.lists.Below.{once_range}

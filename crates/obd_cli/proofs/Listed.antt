@@ -1,5 +1,5 @@
 -- Lists of generators that grow arc by arc, and the outcome for empty columns.
-use Rattle.std.proofs.Common.{◌≡◌, ℕ, zero, suc, ◌+◌, ◌-◌, ◌*◌, ◌^◌, ◌<◌, ◌≤◌, List, [], ◌∷◌, ◌++◌, length, map, flat_map, get_or, refl, sym, ◌∙◌, ap, subst, arith, add-one, inl, inr}
+use Rattle.std.proofs.Common.{◌≡◌, ℕ, zero, suc, ◌+◌, ◌-◌, ◌^◌, ◌<◌, ◌≤◌, List, [], ◌∷◌, ◌++◌, length, map, flat_map, get_or, refl, sym, ◌∙◌, ap, subst, arith, add-one, inl, inr}
 use Rattle.std.proofs.Math.Nat.{pow-suc}
 use Rattle.std.proofs.lemmas.Bool.{cases_eq}
 use Rattle.std.specs.List.{All, range_with_len}
@@ -10,15 +10,13 @@ use Rattle.obd_base.specs.declared.points.Column.{Column}
 use Rattle.obd_base.proofs.lists.Below.{below_push}
 use Rattle.page_surface.specs.Drawing.{Drawing, identity}
 use Rattle.page_surface.specs.Polygon.{IsPolygon, arc_count}
-use Rattle.drawing.specs.Points.{all_lists, contact_generator, crossings_of, generators}
+use Rattle.drawing.specs.Points.{all_lists, crossings_of, generators}
 use Rattle.hkm_diagram.specs.Domains.{columns as columns_of}
 use Rattle.hkm_diagram.proofs.IdentityColumns.{identity_columns, identity_generator_count, identity_generators}
-use Rattle.mod2_rank.specs.Linear.{functional}
 use Rattle.mod2_rank.proofs.EmptyColumns.{column_empty, empty_columns, empty_outcome, rank_zero}
 use Rattle.obd_cli.specs.Belongs.{Concludes, IsComplexOf, IsOutcomeOf, rows_of}
 use Rattle.obd_cli.specs.declared.complex.Outcome.{Outcome}
 use Rattle.obd_cli.specs.declared.certificate.Pivot.{Pivot}
-use Rattle.obd_cli.specs.declared.certificate.Verdict.{Verdict}
 use Rattle.obd_cli.specs.declared.certificate.Verdict.TheVariants.{Functional}
 
 -- the lists of one number more
@@ -67,8 +65,7 @@ generator_bounds d arcs ok is count few =
 pub rows_empty : {A : Type 0} (items : List A) (columns : List Column) → rows_of columns ≡ empty_columns items
     → All (λ column. column.rows ≡ []) columns × (length columns ≡ length items)
 rows_empty items columns is =
-    let size : length columns ≡ length items = sym (length-map columns (λ column. column.rows)) ∙ (ap length is ∙ length-map items (λ item. [])) in
-    (
+    let size : length columns ≡ length items = sym (length-map columns (λ column. column.rows)) ∙ (ap length is ∙ length-map items (λ item. [])) in (
       λ k d l. sym (get_or-map (λ (column : Column). column.rows) columns k d [] l) ∙ (ap (λ rows. get_or rows k []) is ∙ column_empty items k),
       size,
     )

@@ -1,18 +1,16 @@
 -- A certificate whose fields are made from the joined polygon and the diagram of the identity drawing belongs to its page.
 use Rattle.std.specs.Prelude.{IfOk}
 use Rattle.std.proofs.lemmas.Result.{IfOk-weaker}
-use Rattle.std.proofs.Common.{Result, ◌≡◌, ℕ, suc, ◌+◌, ◌*◌, ◌/◌, ◌-ℤ◌, pos, List, [], ◌∷◌, ◌++◌, length, map, get_or, Some, refl, sym, ◌∙◌, ap, subst, arith}
+use Rattle.std.proofs.Common.{Result, ◌≡◌, ℕ, ◌+◌, List, [], ◌∷◌, ◌++◌, length, get_or, Some, sym, ◌∙◌, ap, subst, arith}
 use Rattle.std.specs.List.{slice_get}
 use Rattle.std.proofs.lemmas.List.{get_or_push, length-append}
 use Rattle.std.proofs.lemmas.Option.{slice_get-get_or}
-use Rattle.obd_base.specs.Lists.{below}
-use Rattle.page_surface.specs.Drawing.{Drawing, identity, strand_exits}
+use Rattle.page_surface.specs.Drawing.{identity}
 use Rattle.page_surface.specs.Joining.{joined, page_polygon}
 use Rattle.page_surface.specs.Labels.{Label}
-use Rattle.page_surface.specs.Polygon.{Polygon, arc_count, sides}
-use Rattle.drawing.specs.Points.{contact_generator, crossings_of, generators}
+use Rattle.page_surface.specs.Polygon.{Polygon}
+use Rattle.drawing.specs.Points.{contact_generator, generators}
 use Rattle.drawing.proofs.Generators.{contact_comes_last}
-use Rattle.hkm_diagram.specs.Domains.{columns}
 use Rattle.hkm_diagram.proofs.IdentityColumns.{identity_columns, identity_strands}
 use Rattle.mod2_rank.specs.Linear.{column_at}
 use Rattle.mod2_rank.proofs.EmptyColumns.{column_empty}

@@ -55,11 +55,7 @@ fn with_arc(
 
 // The generators in lexicographic order, each by the numbers of its points. In the identity drawing each arc has
 // a strand of its own, so every list of points is a generator. Linear in the numbers listed.
-fn generators(
-    alloc: Global,
-    diagram: &Diagram,
-    arcs: u32,
-) -> Result<Items<Items<u32>>, NoMemory>
+fn generators(alloc: Global, diagram: &Diagram, arcs: u32) -> Result<Items<Items<u32>>, NoMemory>
     requires valid { IsPolygon diagram.now.polygon }
     requires identity { diagram.now ≡ identity diagram.now.polygon }
     requires arcs { arcs ≡ arc_count diagram.now.polygon }

@@ -1,4 +1,4 @@
-use Rattle.std.proofs.Common.{◌≡◌, suc, length, ap, ◌∙◌, arith}
+use Rattle.std.proofs.Common.{suc, length, ap, ◌∙◌, arith}
 use Rattle.drawing.specs.Points.{crossings_of}
 use Rattle.obd_cli.proofs.Listed.{all_arcs, arc_before, generator_bounds, lists_from}
 use Rattle.obd_cli.proofs.complex.generators.Goals as goal
