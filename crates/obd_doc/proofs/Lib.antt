@@ -1,2 +1,3 @@
+mod SoFar
 mod PlainLemmas
 mod PageLemmas

@@ -6,6 +6,7 @@
 #![tactic(auto)]
 
 mod plain;
+mod reading;
 mod values;
 
 pub use plain::read_plain;
