@@ -10,7 +10,7 @@ use Rattle.path_words.specs.Alphabet.{Alphabet, cancelled, Alike}
 use Rattle.path_words.proofs.Reduction.{alike_cancelled}
 use Rattle.path_words.proofs.Letters.{from_cancelled}
 use Rattle.path_words.proofs.SideLetters.{side_letters, reduced_is}
-use Rattle.path_words.proofs.Action.{image_alike}
+use Rattle.path_words.proofs.ImageProduct.{image_alike}
 
 module _ (p : Polygon) (ok : Pairs p) (c : List Exit) (curve : IsCurve p c) (g : Sign) where
   abbrev L : Alphabet ℕ

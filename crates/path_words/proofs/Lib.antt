@@ -1,4 +1,4 @@
-mod Action
+mod ImageProduct
 mod ActionLaws
 mod Crossing
 mod CurvePlanar
@@ -8,9 +8,13 @@ mod Homs
 pub mod Laws
 mod Letters
 mod Members
+mod Moving
 mod Passed
 mod Places
 mod Planar
+mod PushWords
+mod Readings
 mod Reducing
 mod Reduction
 mod SideLetters
+mod Stacks
