@@ -8,7 +8,7 @@ ghost use Rattle.page_surface.specs.Polygon.{IsPolygon, sides};
 ghost use Rattle.page_surface.specs.Words.{reduced};
 ghost use Rattle.curve_paths.specs.Curves.{IsCurve, gap_before, image, passed, push_at};
 
-use crate::pushes::pushes;
+use crate::pushes::side_pushes;
 use crate::stack::{put_letter, put_letters};
 use curve_paths::Curve;
 use obd_base::{Items, NoMemory, SideNo, Sign};
@@ -78,7 +78,7 @@ fn put_passed(
 }
 
 // The reduced image of a word, from the pushes along all sides.
-fn moved(
+fn image_of(
     alloc: Global,
     polygon: &Polygon,
     pushes: &[Items<SideNo>],
@@ -92,24 +92,19 @@ fn moved(
     requires in_range { All (λ s. s < sides polygon.now) word.now }
     requires from { from < sides polygon.now }
     requires to { to < sides polygon.now }
-    ensures { IfOk result (λ moved. (curve : List Leaves) (sign : Turn) → pushes.now ≡ map (push_at polygon.now curve sign) (below (sides polygon.now))
-        → moved.items ≡ reduced polygon.now (image polygon.now curve sign word.now from to)) }
+    ensures { IfOk result (λ made. (curve : List Leaves) (sign : Turn) → pushes.now ≡ map (push_at polygon.now curve sign) (below (sides polygon.now))
+        → made.items ≡ reduced polygon.now (image polygon.now curve sign word.now from to)) }
 {
-    let mut moved = Vec::new(alloc);
+    let mut image = Vec::new(alloc);
     let mut gap = from;
     for side in word {
-        put_passed(
-            polygon,
-            pushes,
-            &mut moved,
-            gap,
-            previous_gap(polygon, *side),
-        )?;
-        put_letter(polygon, &mut moved, *side)?;
+        let end = previous_gap(polygon, *side);
+        put_passed(polygon, pushes, &mut image, gap, end)?;
+        put_letter(polygon, &mut image, *side)?;
         gap = polygon.pair(*side);
     }
-    put_passed(polygon, pushes, &mut moved, gap, to)?;
-    Ok(moved)
+    put_passed(polygon, pushes, &mut image, gap, to)?;
+    Ok(image)
 }
 
 /// The image of a word under a single Dehn twist along a curve, reduced. The word is that of a path from the
@@ -132,18 +127,18 @@ pub fn act(
     requires few { length word.now ≤ 4000 }
     requires from { from < sides polygon.now }
     requires to { to < sides polygon.now }
-    ensures image { IfOk result (λ moved. moved.items ≡ reduced polygon.now (image polygon.now curve.now sign word.now from to)) }
-    ensures within { IfOk result (λ moved. length moved.items ≤ 4000) }
+    ensures image { IfOk result (λ made. made.items ≡ reduced polygon.now (image polygon.now curve.now sign word.now from to)) }
+    ensures within { IfOk result (λ made. length made.items ≤ 4000) }
     ensures refused { IfErr result (λ refusal. refusal ≢ ActRefusal.NoMemory
         → refusal ≡ ActRefusal.TooLong (length (reduced polygon.now (image polygon.now curve.now sign word.now from to)))) }
     ensures long { IfErr result (λ refusal. refusal ≢ ActRefusal.NoMemory
         → 4000 < length (reduced polygon.now (image polygon.now curve.now sign word.now from to))) }
 {
-    let pushes = pushes(alloc, polygon, curve.exits(), sign)?;
-    let moved = moved(alloc, polygon, pushes.as_slice(), word, from, to)?;
-    let letters = moved.len() as u32;
+    let pushes = side_pushes(alloc, polygon, curve.exits(), sign)?;
+    let image = image_of(alloc, polygon, pushes.as_slice(), word, from, to)?;
+    let letters = image.len() as u32;
     if letters > MOST_LETTERS {
         return Err(ActRefusal::TooLong { letters });
     }
-    Ok(moved)
+    Ok(image)
 }

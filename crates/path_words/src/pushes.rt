@@ -157,7 +157,7 @@ fn push_along(
 
 // The pushes along all sides. Linear in their letters, which are as many as the exits for each point of the
 // curve, in that an exit is found at a point in no more steps than the exits are.
-pub(crate) fn pushes(
+pub(crate) fn side_pushes(
     alloc: Global,
     polygon: &Polygon,
     exits: &[Exit],

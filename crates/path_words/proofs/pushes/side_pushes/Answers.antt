@@ -4,8 +4,8 @@ use Rattle.obd_base.specs.Lists.{below}
 use Rattle.page_surface.specs.Polygon.{sides}
 use Rattle.curve_paths.specs.Curves.{push_at}
 use Rattle.path_words.proofs.PushWords.{pushes_in_range, pushes_more}
-use Rattle.path_words.proofs.pushes.pushes.Goals as goal
-use Rattle.path_words.proofs.pushes.pushes.Goals.{After-loop-side}
+use Rattle.path_words.proofs.pushes.side_pushes.Goals as goal
+use Rattle.path_words.proofs.pushes.side_pushes.Goals.{After-loop-side}
 
 pub loop-side-preserved : goal.loop-side-preserved
 loop-side-preserved c =
