@@ -1,5 +1,4 @@
 mod ImageProduct
-mod ActionLaws
 mod Crossing
 mod CurvePlanar
 mod CurvePoints
@@ -16,5 +15,5 @@ mod PushWords
 mod Readings
 mod Reducing
 mod Reduction
-mod SideLetters
+pub mod SideLetters
 mod Stacks

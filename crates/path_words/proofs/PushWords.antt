@@ -17,9 +17,8 @@ use Rattle.page_surface.specs.Polygon.{Pairs, Polygon, partner, sides}
 use Rattle.page_surface.specs.Words.{inverse, push_letter, reduced}
 use Rattle.curve_paths.specs.Curves.{IsCurve, curve_entry, curve_points, gap_before, image, passed, push_at, rho, signed, turned}
 use Rattle.path_words.proofs.Letters.{from_back}
-use Rattle.path_words.proofs.Members.{from_flat_map}
-use Rattle.path_words.proofs.Readings.{mem_get_or}
-use Rattle.path_words.proofs.SideLetters.{side_letters}
+use Rattle.path_words.proofs.Members.{from_flat_map, mem_get_or}
+use Rattle.path_words.proofs.SideLetters.{AreSides, side_letters}
 
 -- a push with one point more
 pub push_more : (p : Polygon) (c : List Exit) (sign : Sign) (k j : ℕ) (push new : List ℕ) → push ≡ flat_map (λ i. signed p sign (rho p c k i)) (below j)
@@ -39,36 +38,38 @@ pushes_more f k pushes new push so_far is made =
     made ∙ (ap₂ (λ xs x. xs ++ x ∷ []) so_far is ∙ sym (map-range_with_len_more f 0 k k (omega arith)))
 
 module _ (p : Polygon) (ok : Pairs p) where
-  -- the letters are sides
-  abbrev pub AreSides : List ℕ → Type 0
-  AreSides w = (s : ℕ) → Mem s w → s < sides p
-
-  sides_turned : (i : ℕ) (w : List ℕ) → AreSides w → AreSides (turned i w)
+  -- the letters of a word that is turned are sides
+  sides_turned : (i : ℕ) (w : List ℕ) → AreSides p w → AreSides p (turned i w)
   sides_turned i w h s m = elim (mem_append s (drop i w) (take i w) m) [
     | inl k ↦ h s (subst (Mem s) (take-append-drop i w) (mem_right s (take i w) (drop i w) k))
     | inr k ↦ h s (subst (Mem s) (take-append-drop i w) (mem_left s (take i w) (drop i w) k))
   ]
 
-  sides_inverse : (w : List ℕ) → AreSides w → AreSides (inverse p w)
+  -- of its inverse
+  sides_inverse : (w : List ℕ) → AreSides p w → AreSides p (inverse p w)
   sides_inverse w h s m = let (t, k, e) = from_back (side_letters p ok) w s m in subst (λ z. z < sides p) (sym e) (ok.in_range t (h t k))
 
-  sides_signed : (sign : Sign) (w : List ℕ) → AreSides w → AreSides (signed p sign w)
+  -- and of what stands for either sign
+  sides_signed : (sign : Sign) (w : List ℕ) → AreSides p w → AreSides p (signed p sign w)
   sides_signed Plus w h = h
   sides_signed Minus w h = sides_inverse w h
 
   module _ (c : List Exit) (curve : IsCurve p c) (sign : Sign) where
-    sides_curve : AreSides (map (λ e. e.side) c)
+    -- the letters of the curve are sides
+    sides_curve : AreSides p (map (λ e. e.side) c)
     sides_curve s m = let (e, k, is) = mem_map (λ (e : Exit). e.side) s c m in subst (λ z. z < sides p) (sym is) (curve.in_range e k).0
 
-    sides_rho : (k j : ℕ) → AreSides (rho p c k j)
+    -- and those read from a point of it
+    sides_rho : (k j : ℕ) → AreSides p (rho p c k j)
     sides_rho k j =
         let w : List ℕ = map (λ e. e.side) c in
         let leaves : ℕ = position_or_len (λ e. is_at e k j) c in
         let enters : ℕ = position_or_len (λ e. is_at (curve_entry p c e) k j) c in
-        cond_both (nat_lt leaves (length c)) (turned leaves w) (inverse p (turned (suc enters) w)) AreSides
+        cond_both (nat_lt leaves (length c)) (turned leaves w) (inverse p (turned (suc enters) w)) (AreSides p)
         (λ _. sides_turned leaves w sides_curve) (λ _. sides_inverse (turned (suc enters) w) (sides_turned (suc enters) w sides_curve))
 
-    sides_push : (k : ℕ) → AreSides (push_at p c sign k)
+    -- and those of a push
+    sides_push : (k : ℕ) → AreSides p (push_at p c sign k)
     sides_push k s m =
         let (j, _, n) = from_flat_map (λ j. signed p sign (rho p c k j)) s (below (curve_points p c k)) m in
         sides_signed sign (rho p c k j) (sides_rho k j) s n
@@ -108,14 +109,17 @@ length-reduced p (s ∷ w) = omega (arith, pushed (reduced p w), length-reduced 
     pushed (t ∷ v) = cond_both (nat_eq (partner p s) t) v (s ∷ t ∷ v) (λ x. length x ≤ suc (suc (length v))) (λ _. omega arith) (λ _. omega arith)
 
 module _ (p : Polygon) (c : List Exit) (sign : Sign) (few : length c ≤ 32) (few_sides : sides p ≤ 16) (some : 0 < sides p) where
+  -- a curve has at most 32 letters, read from any exit on
   length-turned : (i : ℕ) → length (turned i (map (λ e. e.side) c)) ≤ 32
   length-turned i =
       let w : List ℕ = map (λ e. e.side) c in
       omega (arith, length-append (drop i w) (take i w), length-append (take i w) (drop i w), ap length (take-append-drop i w), length-map c (λ (e : Exit). e.side))
 
+  -- and as many back
   length-inverse : (w : List ℕ) → length (inverse p w) ≡ length w
   length-inverse w = length-reverse (map (partner p) w) ∙ length-map w (partner p)
 
+  -- so from a point
   length-rho : (k j : ℕ) → length (rho p c k j) ≤ 32
   length-rho k j =
       let w : List ℕ = map (λ e. e.side) c in
@@ -124,6 +128,7 @@ module _ (p : Polygon) (c : List Exit) (sign : Sign) (few : length c ≤ 32) (fe
       cond_both (nat_lt leaves (length c)) (turned leaves w) (inverse p (turned (suc enters) w)) (λ x. length x ≤ 32)
       (λ _. length-turned leaves) (λ _. omega (arith, length-inverse (turned (suc enters) w), length-turned (suc enters)))
 
+  -- for either sign
   length-signed : (sign : Sign) (w : List ℕ) → length w ≤ 32 → length (signed p sign w) ≤ 32
   length-signed Plus w h = h
   length-signed Minus w h = omega (arith, length-inverse w)

@@ -1,8 +1,8 @@
 -- How a curve is read from one of its points.
-use Rattle.std.proofs.Common.{◌≡◌, ℕ, zero, suc, ◌+◌, ◌-◌, ◌<◌, ◌≤◌, Bool, true, false, cond, eqb, ◌&&◌, not, List, [], ◌∷◌, ◌++◌, map, reverse, length, take, drop, get_or, refl, sym, ◌∙◌, ap, ap₂, arith, inl, inr, add-one, append_assoc}
+use Rattle.std.proofs.Common.{◌≡◌, ℕ, ◌+◌, ◌-◌, ◌<◌, ◌≤◌, Bool, true, false, cond, eqb, ◌&&◌, not, List, [], ◌∷◌, ◌++◌, map, reverse, length, take, drop, get_or, refl, sym, ◌∙◌, ap, ap₂, arith, inl, inr, add-one, append_assoc}
 use Rattle.std.specs.List.{All, position_or_len}
 use Rattle.std.proofs.lemmas.List.{reverse-append, take-map, drop-map, get_or_read, map-append, take_rest}
-use Rattle.std.proofs.lemmas.Bool.{cases_Bool, cases_eq, eq-eqb, eqb-true, lt-ltb, le-ltb, ne_eqb}
+use Rattle.std.proofs.lemmas.Bool.{cases_Bool, cases_eq, eq-eqb, eqb-true, le-ltb, ne_eqb}
 use Rattle.std.proofs.lemmas.List.Sums.{position_or_len_is}
 use Rattle.obd_base.specs.Lists.{Mem}
 use Rattle.obd_base.specs.declared.points.Exit.{Exit}
@@ -10,15 +10,10 @@ use Rattle.page_surface.specs.Drawing.{exit, is_at}
 use Rattle.page_surface.specs.Polygon.{Pairs, Polygon, partner, sides}
 use Rattle.page_surface.specs.Words.{inverse}
 use Rattle.curve_paths.specs.Curves.{IsCurve, curve_entry, curve_points, rho, turned}
+use Rattle.path_words.proofs.Members.{mem_get_or}
 use Rattle.path_words.proofs.CurvePoints.{Made, enters_entry, entering, leaves_exit, leaving, made, points_partner}
 use Rattle.path_words.proofs.Reduction.{back-back}
 use Rattle.path_words.proofs.SideLetters.{side_letters}
-
--- a member at an index
-pub mem_get_or : {A : Type 0} (xs : List A) (i : ℕ) (d : A) → i < length xs → Mem (get_or xs i d) xs
-mem_get_or [] i d l = absurd (omega arith)
-mem_get_or (x ∷ xs) zero d l = inl refl
-mem_get_or (x ∷ xs) (suc i) d l = inr (mem_get_or xs i d (omega arith))
 
 -- the exits of a curve leave through sides
 pub exits_on_sides : (p : Polygon) (c : List Exit) → IsCurve p c → All (λ e. e.side < sides p) c
@@ -111,12 +106,9 @@ module _ (p : Polygon) (ok : Pairs p) (c : List Exit) (curve : IsCurve p c) (k j
           = ap (λ (x : Exit). position_or_len (λ y. is_at (curve_entry p c y) x.side x.place) c) e ∙ enters_entry p ok c curve i l in
           omega (arith, enters_is)
 
+  -- so after it the curve is read on
   pub entering_end : (n i : ℕ) → n ≡ position_or_len (λ e. is_at e k j) c → length c ≤ n → i ≡ position_or_len enters_there c → i + 1 ≤ length c
   entering_end n i is l at = omega (arith, enters_within (omega arith))
-
-  -- what the curve is read as from a point where an exit leaves
-  pub rho_leaving : (n : ℕ) → n ≡ position_or_len (λ e. is_at e k j) c → n < length c → rho p c k j ≡ turned n (map (λ e. e.side) c)
-  rho_leaving n is l = rw (← is, lt-ltb n (length c) l) refl
 
   -- and from one where an exit enters
   pub rho_entering : (n i : ℕ) → n ≡ position_or_len (λ e. is_at e k j) c → length c ≤ n → i ≡ position_or_len enters_there c
