@@ -17,6 +17,7 @@ module _ (p : Polygon) (ok : Pairs p) (c : List Exit) (curve : IsCurve p c) wher
   abbrev mate' : Exit → Exit
   mate' = mate p ok c curve
 
+  -- the other end of a chord is a point of the curve
   pub mate_in : (e : Exit) → In p ok c curve e → In p ok c curve (mate p ok c curve e)
   mate_in e h = go (made p ok c curve e h)
     where
@@ -25,6 +26,7 @@ module _ (p : Polygon) (ok : Pairs p) (c : List Exit) (curve : IsCurve p c) wher
           (entry_in p ok c curve (exit_at c (previous (length c) i)) (exit_in p ok c curve (previous (length c) i) (previous-less (length c) i l)))
       go (entering i l q) = subst In' (sym (ap mate' q ∙ mate_entry p ok c curve i l)) (exit_in p ok c curve (following (length c) i) (following-less (length c) i l))
 
+  -- and its other end is the point
   pub mate-mate : (e : Exit) → In p ok c curve e → mate p ok c curve (mate p ok c curve e) ≡ e
   mate-mate e h = go (made p ok c curve e h)
     where
@@ -35,6 +37,7 @@ module _ (p : Polygon) (ok : Pairs p) (c : List Exit) (curve : IsCurve p c) wher
           ∙ (mate_exit p ok c curve (following (length c) i) (following-less (length c) i l)
           ∙ (ap (λ t. curve_entry p c (exit_at c t)) (previous-following (length c) i l) ∙ sym q)))
 
+  -- which is another
   pub mate_moves : (e : Exit) → In p ok c curve e → mate p ok c curve e ≢ e
   mate_moves e h = go (made p ok c curve e h)
     where
@@ -96,6 +99,7 @@ module _ (p : Polygon) (ok : Pairs p) (c : List Exit) (curve : IsCurve p c) wher
         ]
       ]
 
+  -- so the points are paired off without crossing
   pub curve_planar : Planar (In p ok c curve) (curve_spot p c) (mate p ok c curve)
   curve_planar = record { stays = mate_in; twice = mate-mate; moves = mate_moves; uncrossed = mate_uncrossed }
 

@@ -1,20 +1,15 @@
 -- The points of a curve: each is made by one exit, as exit or as entry; the other end of its chord; the chords don't cross.
-use Rattle.std.proofs.Common.{◌≡◌, ℕ, zero, suc, ◌+◌, ◌-◌, ◌<◌, ◌≤◌, Bool, true, false, cond, eqb, ltb, ◌&&◌, List, [], ◌∷◌, length, get_or, take, refl, sym, ◌∙◌, ap, subst, ◌⊎◌, inl, inr, ◌≢◌, arith}
+use Rattle.std.proofs.Common.{◌≡◌, ℕ, suc, ◌+◌, ◌-◌, ◌<◌, ◌≤◌, Bool, true, false, cond, eqb, ltb, ◌&&◌, List, [], ◌∷◌, length, get_or, take, refl, sym, ◌∙◌, ap, subst, ◌⊎◌, inl, inr, ◌≢◌, arith}
 use Rattle.std.specs.List.{sum_by, count_by, position_or_len}
 use Rattle.std.proofs.lemmas.Bool.{eqb-true, eq-eqb, ne_eqb, and_parts, and_from, lt-ltb, le-ltb, cases_lt, cases_eq, cases_order}
 use Rattle.std.proofs.lemmas.List.Sums.{sum_by-cons, sum_by_more_le, get_or-le-sum_by, position_or_len_is}
 use Rattle.std.proofs.lemmas.List.{get_or-take, length-take}
 use mathlib.Core.Path.{fun_ext}
+use Rattle.path_words.proofs.Members.{mem_get_or}
 use Rattle.curve_paths.specs.Curves.{curve_points, curve_entry, curve_stands, exit_at, previous, IsCurve}
-use Rattle.obd_base.specs.Lists.{Mem}
 use Rattle.obd_base.specs.declared.points.Exit.{Exit}
 use Rattle.page_surface.specs.Drawing.{exit, is_at}
 use Rattle.page_surface.specs.Polygon.{Polygon, sides, partner, Pairs}
-
-mem_get_or : {A : Type 0} (xs : List A) (i : ℕ) (d : A) → i < length xs → Mem (get_or xs i d) xs
-mem_get_or [] i d l = absurd (omega (arith, l))
-mem_get_or (x ∷ xs) zero d l = inl refl
-mem_get_or (x ∷ xs) (suc i) d l = inr (mem_get_or xs i d (omega (arith, l)))
 
 -- a sum of one has a part
 some_part : {A : Type 0} (s : A → ℕ) (d : A) (xs : List A) → sum_by s xs ≡ 1 → (i : ℕ) × (i < length xs) × (1 ≤ s (get_or xs i d))
@@ -46,10 +41,6 @@ one_part s d xs i k l h e g f = elim (cases_order i k) [
 count_same : {A : Type 0} (f g : A → Bool) (xs : List A) → ((x : A) → f x ≡ g x) → count_by f xs ≡ count_by g xs
 count_same f g xs h = ap (λ t. count_by t xs) (fun_ext h)
 
-one_or_zero : (b : Bool) → 1 ≤ cond {A = ℕ} b 1 0 → b ≡ true
-one_or_zero true l = refl
-one_or_zero false l = absurd (omega (arith, l))
-
 either_part : (a b : Bool) → 1 ≤ cond {A = ℕ} a 1 0 + cond b 1 0 → (a ≡ true) ⊎ (b ≡ true)
 either_part true b l = inl refl
 either_part false true l = inr refl
@@ -59,15 +50,19 @@ not_so : (b : Bool) → (b ≡ true → ⊥) → b ≡ false
 not_so true h = absurd (h refl)
 not_so false h = refl
 
+-- an exit is its side and its place
 pub exit_same : (e : Exit) (k j : ℕ) → e.side ≡ k → e.place ≡ j → e ≡ exit k j
 exit_same e k j q s = ap (λ x. exit x e.place) q ∙ ap (exit k) s
 
+-- what is at a place of a side
 pub at_parts : (e : Exit) (k j : ℕ) → is_at e k j ≡ true → e ≡ exit k j
 at_parts e k j h = let r = and_parts (eqb e.side k) (eqb e.place j) h in exit_same e k j (eqb-true _ _ r.0) (eqb-true _ _ r.1)
 
+-- an exit is at its own place
 pub at_itself : (e : Exit) → is_at e e.side e.place ≡ true
 at_itself e = rw (eq-eqb e.side e.side refl, eq-eqb e.place e.place refl) refl
 
+-- a side is a partner where its partner is the side
 pub twice_eqb : (p : Polygon) (ok : Pairs p) (a k : ℕ) → eqb a (partner p k) ≡ eqb (partner p a) k
 twice_eqb p ok a k = elim (cases_eq a (partner p k)) [
   | inl e ↦ (rw (eq-eqb a (partner p k) e, eq-eqb (partner p a) k (ap (partner p) e ∙ ok.twice k)) refl)
@@ -78,24 +73,28 @@ twice_eqb p ok a k = elim (cases_eq a (partner p k)) [
 abbrev pub following : ℕ → ℕ → ℕ
 following n i = cond (eqb (suc i) n) 0 (suc i)
 
+-- the exits before and after are exits
 pub previous-less : (n i : ℕ) → i < n → previous n i < n
 previous-less n i l = elim (cases_eq i 0) [
   | inl e ↦ rw (eq-eqb i 0 e) (omega arith)
   | inr h ↦ rw (ne_eqb i 0 h) (omega arith)
 ]
 
+-- and so is the one after
 pub following-less : (n i : ℕ) → i < n → following n i < n
 following-less n i l = elim (cases_eq (suc i) n) [
   | inl e ↦ rw (eq-eqb (suc i) n e) (omega arith)
   | inr h ↦ rw (ne_eqb (suc i) n h) (omega arith)
 ]
 
+-- each undoes the other
 pub previous-following : (n i : ℕ) → i < n → previous n (following n i) ≡ i
 previous-following n i l = elim (cases_eq (suc i) n) [
   | inl e ↦ rw (eq-eqb (suc i) n e) (omega arith)
   | inr h ↦ rw (ne_eqb (suc i) n h) (let q : suc i ≢ 0 = λ t. omega (arith, t) in rw (ne_eqb (suc i) 0 q) (omega arith))
 ]
 
+-- in both orders
 pub following-previous : (n i : ℕ) → i < n → following n (previous n i) ≡ i
 following-previous n i l = elim (cases_eq i 0) [
   | inl e ↦ rw (eq-eqb i 0 e) (let q : suc (n - 1) ≡ n = omega arith in rw (eq-eqb (suc (n - 1)) n q) (sym e))
@@ -123,6 +122,7 @@ module _ (p : Polygon) (ok : Pairs p) (c : List Exit) (curve : IsCurve p c) wher
       (λ e. twice_eqb p ok (partner p e.side) k ∙ ap (λ z. eqb z k) (ok.twice e.side)) in
       omega (arith, a, b)
 
+  -- an exit is a point of the curve
   pub exit_in : (i : ℕ) → i < R → In (exit_at c i)
   exit_in i l = curve.in_range (exit_at c i) (mem_get_or c i (exit 0 0) l)
 
@@ -130,6 +130,7 @@ module _ (p : Polygon) (ok : Pairs p) (c : List Exit) (curve : IsCurve p c) wher
   pub entry_in : (e : Exit) → In e → In (curve_entry p c e)
   entry_in e h = (ok.in_range e.side h.0, omega (arith, points_partner e.side, h.1))
 
+  -- the entry of an entry is the exit
   pub entry-entry : (e : Exit) → In e → curve_entry p c (curve_entry p c e) ≡ e
   entry-entry e h = exit_same (curve_entry p c (curve_entry p c e)) e.side e.place (ok.twice e.side) (omega (arith, points_partner e.side, h.1))
 
@@ -153,6 +154,7 @@ module _ (p : Polygon) (ok : Pairs p) (c : List Exit) (curve : IsCurve p c) wher
       one_part (λ x. curve_stands p c x (exit_at c k).side (exit_at c k).place) (exit 0 0) c i k l h (curve.right (exit_at c k).side (exit_at c k).place g.0 g.1)
       (subst (λ z. 1 ≤ curve_stands p c (exit_at c i) z.side z.place) e (stands_exit i)) (stands_exit k)
 
+  -- and so do entries
   pub entries_differ : (i k : ℕ) → i < R → k < R → curve_entry p c (exit_at c i) ≡ curve_entry p c (exit_at c k) → i ≡ k
   entries_differ i k l h e = exits_differ i k l h (sym (entry-entry (exit_at c i) (exit_in i l)) ∙ (ap (curve_entry p c) e ∙ entry-entry (exit_at c k) (exit_in k h)))
 
@@ -175,6 +177,7 @@ module _ (p : Polygon) (ok : Pairs p) (c : List Exit) (curve : IsCurve p c) wher
     leaving : (i : ℕ) → i < R → e ≡ exit_at c i → Made e
     entering : (i : ℕ) → i < R → e ≡ curve_entry p c (exit_at c i) → Made e
 
+  -- each point is one of the two
   pub made : (e : Exit) → In e → Made e
   made e h =
       let r = some_part (λ x. curve_stands p c x e.side e.place) (exit 0 0) c (curve.right e.side e.place h.0 h.1) in
@@ -192,9 +195,11 @@ module _ (p : Polygon) (ok : Pairs p) (c : List Exit) (curve : IsCurve p c) wher
   abbrev pub leaves : Exit → ℕ
   leaves e = position_or_len (λ x. is_at x e.side e.place) c
 
+  -- the exit that enters at a point
   abbrev pub enters : Exit → ℕ
   enters e = position_or_len (λ x. is_at (curve_entry p c x) e.side e.place) c
 
+  -- at an exit leaves that exit
   pub leaves_exit : (i : ℕ) → i < R → leaves (exit_at c i) ≡ i
   leaves_exit i l =
       let e = exit_at c i in
@@ -202,6 +207,7 @@ module _ (p : Polygon) (ok : Pairs p) (c : List Exit) (curve : IsCurve p c) wher
       (λ k h. not_so (is_at (exit_at c k) e.side e.place) (λ q. let s : k ≡ i = exits_differ k i (omega arith) l (at_parts (exit_at c k) e.side e.place q) in omega (arith, s, h)))
       (λ h. at_itself e)
 
+  -- at an entry leaves none
   pub leaves_entry : (i : ℕ) → i < R → leaves (curve_entry p c (exit_at c i)) ≡ R
   leaves_entry i l =
       let e = curve_entry p c (exit_at c i) in
@@ -209,6 +215,7 @@ module _ (p : Polygon) (ok : Pairs p) (c : List Exit) (curve : IsCurve p c) wher
       (λ k h. not_so (is_at (exit_at c k) e.side e.place) (λ q. exit_no_entry k i h l (at_parts (exit_at c k) e.side e.place q)))
       (λ h. absurd (omega (arith, h)))
 
+  -- at an entry enters its exit
   pub enters_entry : (i : ℕ) → i < R → enters (curve_entry p c (exit_at c i)) ≡ i
   enters_entry i l =
       let e = curve_entry p c (exit_at c i) in
@@ -220,8 +227,10 @@ module _ (p : Polygon) (ok : Pairs p) (c : List Exit) (curve : IsCurve p c) wher
   abbrev pub mate : Exit → Exit
   mate e = cond (ltb (leaves e) R) (curve_entry p c (exit_at c (previous R (leaves e)))) (exit_at c (following R (enters e)))
 
+  -- from an exit the chord leads to the entry of the exit before
   pub mate_exit : (i : ℕ) → i < R → mate (exit_at c i) ≡ curve_entry p c (exit_at c (previous R i))
   mate_exit i l = rw (leaves_exit i l, lt-ltb i R l) refl
 
+  -- from an entry to the next exit
   pub mate_entry : (i : ℕ) → i < R → mate (curve_entry p c (exit_at c i)) ≡ exit_at c (following R i)
   mate_entry i l = let h : R ≤ R = omega arith in rw (leaves_entry i l, le-ltb R R h, enters_entry i l) refl

@@ -4,6 +4,7 @@ use Rattle.std.specs.List.{flat_map, filter, range_with_len}
 use Rattle.std.proofs.lemmas.Bool.{lt-ltb, le-ltb, cases_eq, eq-eqb, ne_eqb, false≢true}
 use Rattle.std.proofs.lemmas.List.{append-nil, take_more, drop_more, drop_all, take_all, get_or-map, length-map}
 use Rattle.std.proofs.lemmas.List.Concat.{flat_map-append}
+use Rattle.std.proofs.lemmas.List.Folds.{flat_map-map}
 use Rattle.curve_paths.specs.Curves.{curve_points, curve_entry, turned, rho, signed, push_at, curve_spot, exit_at, previous, IsCurve}
 use Rattle.obd_base.specs.Lists.{below}
 use Rattle.obd_base.specs.declared.points.Exit.{Exit}
@@ -20,14 +21,12 @@ use Rattle.path_words.proofs.Planar.{Interval, Tells, interval_once}
 use Rattle.path_words.proofs.CurvePoints.{In, Made, leaving, entering, made, mate, mate_exit, mate_entry, following, exit_in, entry-entry, following-less, previous-less, leaves_exit, leaves_entry, enters_entry, points_partner}
 use Rattle.path_words.proofs.CurvePlanar.{curve_planar, all_points}
 
-pub flat_map-map : {A B C : Type 0} (f : B → List C) (g : A → B) (xs : List A) → flat_map f (map g xs) ≡ flat_map (λ x. f (g x)) xs
-flat_map-map f g [] = refl
-flat_map-map f g (x ∷ xs) = ap (λ z. f (g x) ++ z) (flat_map-map f g xs)
-
+-- a product of products
 pub flat_map-flat_map : {A B C : Type 0} (f : B → List C) (g : A → List B) (xs : List A) → flat_map f (flat_map g xs) ≡ flat_map (λ x. flat_map f (g x)) xs
 flat_map-flat_map f g [] = refl
 flat_map-flat_map f g (x ∷ xs) = flat_map-append f (g x) (flat_map g xs) ∙ ap (λ z. flat_map f (g x) ++ z) (flat_map-flat_map f g xs)
 
+-- products of words that agree
 pub flat_map_same : {A B : Type 0} (f g : A → List B) (xs : List A) → ((x : A) → f x ≡ g x) → flat_map f xs ≡ flat_map g xs
 flat_map_same f g [] h = refl
 flat_map_same f g (x ∷ xs) h = rw (h x) (ap (λ z. g x ++ z) (flat_map_same f g xs h))
@@ -64,9 +63,11 @@ module _ (p : Polygon) (ok : Pairs p) (c : List Exit) (curve : IsCurve p c) wher
   abbrev pub read_at : Exit → List ℕ
   read_at e = rho p c e.side e.place
 
+  -- the word read from an exit
   pub read_exit : (i : ℕ) → i < R → read_at (exit_at c i) ≡ turned i w
   read_exit i l = rw (leaves_exit p ok c curve i l, lt-ltb i R l) refl
 
+  -- and from an entry
   pub read_entry : (i : ℕ) → i < R → read_at (curve_entry p c (exit_at c i)) ≡ back L (turned (i + 1) w)
   read_entry i l = let h : R ≤ R = omega arith in rw (leaves_entry p ok c curve i l, le-ltb R R h, enters_entry p ok c curve i l) (ap (λ z. back L (turned z w)) (sym (add-one i)))
 
@@ -77,6 +78,7 @@ module _ (p : Polygon) (ok : Pairs p) (c : List Exit) (curve : IsCurve p c) wher
     | inr h ↦ (let q : (i - 1) + 1 ≡ i = omega arith in rw (ne_eqb i 0 h) (ap (λ z. turned z w) q))
   ]
 
+  -- turned to the next exit
   pub turned_following : (i : ℕ) → i < R → turned (following R i) w ≡ turned (i + 1) w
   turned_following i l = elim (cases_eq (suc i) R) [
     | inl e ↦ (let q : length w ≡ i + 1 = omega (arith, length-map c (λ e. e.side), e) in
@@ -141,10 +143,12 @@ module _ (p : Polygon) (ok : Pairs p) (c : List Exit) (curve : IsCurve p c) wher
   abbrev pub point_word : Sign → Exit → List ℕ
   point_word g e = signed p g (rho p c e.side e.place)
 
+  -- so what the twist sets at the two ends of a chord is inverse
   pub point_mate : (g : Sign) (e : Exit) → In p ok c curve e → point_word g (mate p ok c curve e) ≡ back L (point_word g e)
   point_mate Plus e h = read_mate e h
   point_mate Minus e h = ap (back L) (read_mate e h)
 
+  -- and so is what it sets at the two names of a point
   pub point_across : (g : Sign) (e : Exit) → In p ok c curve e
       → Alike L (e.side ∷ (point_word g (curve_entry p c e) ++ (partner p e.side ∷ []))) (back L (point_word g e))
   point_across Plus e h = read_across e h
@@ -168,14 +172,17 @@ module _ (p : Polygon) (ok : Pairs p) (c : List Exit) (curve : IsCurve p c) wher
   abbrev pub product_from : Sign → ℕ → ℕ → ℕ → List ℕ
   product_from g k j n = flat_map (λ i. signed p g (rho p c k i)) (range_with_len j n)
 
+  -- the points of a side give the product along it
   pub product_points : (g : Sign) (k j n : ℕ) → flat_map (point_word g) (points_from (curve_points p c) k j n) ≡ product_from g k j n
   product_points g k j n = flat_map-map (point_word g) (exit k) (range_with_len j n)
 
+  -- and those of successive sides the product of their pushes
   pub product_sides : (g : Sign) (a n : ℕ) → flat_map (point_word g) (points_of (curve_points p c) a n) ≡ flat_map (push_at p c g) (range_with_len a n)
   product_sides g a n = flat_map-flat_map (point_word g) (λ k. points_from (curve_points p c) k 0 (curve_points p c k)) (range_with_len a n)
       ∙ flat_map_same (λ k. flat_map (point_word g) (points_from (curve_points p c) k 0 (curve_points p c k))) (push_at p c g) (range_with_len a n)
       (λ k. product_points g k 0 (curve_points p c k))
 
+  -- none passes a test that always fails
   pub none_away : (xs : List Exit) → filter (λ e. false) xs ≡ []
   none_away [] = refl
   none_away (x ∷ xs) = none_away xs

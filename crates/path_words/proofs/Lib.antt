@@ -1,5 +1,4 @@
-mod Action
-mod ActionLaws
+mod ImageProduct
 mod Crossing
 mod CurvePlanar
 mod CurvePoints
@@ -8,9 +7,13 @@ mod Homs
 pub mod Laws
 mod Letters
 mod Members
+mod Moving
 mod Passed
 mod Places
 mod Planar
+mod PushWords
+mod Readings
 mod Reducing
 mod Reduction
-mod SideLetters
+pub mod SideLetters
+mod Stacks

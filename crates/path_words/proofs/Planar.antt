@@ -82,6 +82,7 @@ module _ {P : Type 0} (In : P → Type 0) (spot : P → ℕ) (mate : P → P) (p
         ];
   }
 
+  -- the rest of an interval is one
   pub interval_rest : (xs ys : List P) → Interval (xs ++ ys) → Interval ys
   interval_rest xs ys h = record {
     inside = λ y m. h.inside y (mem_right y xs ys m);

@@ -1,9 +1,14 @@
 -- Words of sides are words over letters with inverses.
-use Rattle.std.proofs.Common.{◌≡◌, ℕ, eqb, List, [], ◌∷◌, refl, ◌∙◌, ap}
+use Rattle.std.proofs.Common.{◌<◌, ◌≡◌, ℕ, eqb, List, [], ◌∷◌, refl, ◌∙◌, ap}
 use Rattle.std.proofs.lemmas.Bool.{eqb-true, eq-eqb}
-use Rattle.page_surface.specs.Polygon.{Polygon, partner, Pairs}
+use Rattle.obd_base.specs.Lists.{Mem}
+use Rattle.page_surface.specs.Polygon.{sides, Polygon, partner, Pairs}
 use Rattle.page_surface.specs.Words.{push_letter, reduced}
 use Rattle.path_words.specs.Alphabet.{Alphabet, push, cancelled}
+
+-- the letters of the word are sides
+abbrev pub AreSides : Polygon → List ℕ → Type 0
+AreSides p w = (s : ℕ) → Mem s w → s < sides p
 
 -- the sides of a polygon, each with its partner as inverse
 abbrev pub side_letters : (p : Polygon) → Pairs p → Alphabet ℕ

@@ -6,6 +6,10 @@
 //! The form of the action is this project's own.
 #![tactic(auto)]
 
+mod action;
+mod pushes;
 mod reduce_word;
+mod stack;
 
+pub use action::{ActRefusal, act};
 pub use reduce_word::reduce;

@@ -5,14 +5,13 @@ use Rattle.std.proofs.lemmas.Bool.{cases_lt}
 use Rattle.std.proofs.lemmas.List.{append-nil}
 use Rattle.std.proofs.lemmas.List.Concat.{flat_map-append}
 use Rattle.curve_paths.specs.Curves.{push_at, passed, gap_before, image, IsCurve}
-use Rattle.obd_base.specs.Lists.{Mem}
 use Rattle.obd_base.specs.declared.points.Exit.{Exit}
 use Rattle.obd_base.specs.declared.points.Sign.{Sign}
 use Rattle.page_surface.specs.Polygon.{Polygon, sides, partner, Pairs}
 use Rattle.path_words.specs.Alphabet.{Alphabet, cancelled, back, Alike, Null}
 use Rattle.path_words.proofs.Reduction.{alike_after, alike_before, alike_join, alike_middle, alike_back, null_out, null_second, pair_out, back_and_word, back-append, back-back, back-cons}
 use Rattle.path_words.proofs.Homs.{hom, Turns}
-use Rattle.path_words.proofs.SideLetters.{side_letters}
+use Rattle.path_words.proofs.SideLetters.{AreSides, side_letters}
 use Rattle.path_words.proofs.Places.{range_join}
 use Rattle.path_words.proofs.Passed.{passed_up, passed_round, before_suc, before_zero, before-less}
 use Rattle.path_words.proofs.CurveWords.{once_round, push_across}
@@ -76,7 +75,7 @@ module _ (p : Polygon) (ok : Pairs p) (c : List Exit) (curve : IsCurve p c) (g :
   moved s = upto (gap_before p s) ++ (s ∷ back L (upto (partner p s)))
 
   -- the image of a path, as a product over its letters
-  pub image_is : (w : List ℕ) (u v : ℕ) → ((s : ℕ) → Mem s w → s < sides p) → u < sides p → v < sides p
+  pub image_is : (w : List ℕ) (u v : ℕ) → AreSides p w → u < sides p → v < sides p
       → Alike L (image p c g w u v) (back L (upto u) ++ (flat_map moved w ++ upto v))
   image_is [] u v h lu lv = way_is u v lu lv
   image_is (s ∷ w) u v h lu lv =
@@ -124,12 +123,8 @@ module _ (p : Polygon) (ok : Pairs p) (c : List Exit) (curve : IsCurve p c) (g :
           back-append L x (s ∷ back L y) ∙ (ap (λ z. z ++ back L x) (back-cons L s (back L y) ∙ ap (λ z. z ++ (partner p s ∷ [])) (back-back L y))
           ∙ append_assoc y (partner p s ∷ []) (back L x))
 
-  -- letters of a path that are sides
-  abbrev pub AreSides : List ℕ → Type 0
-  AreSides w = (s : ℕ) → Mem s w → s < sides p
-
   -- words with one reduced form have images with one reduced form
-  pub image_alike : (w w' : List ℕ) (u v : ℕ) → AreSides w → AreSides w' → u < sides p → v < sides p → Alike L w w'
+  pub image_alike : (w w' : List ℕ) (u v : ℕ) → AreSides p w → AreSides p w' → u < sides p → v < sides p → Alike L w w'
       → Alike L (image p c g w u v) (image p c g w' u v)
   image_alike w w' u v h h' lu lv e =
       image_is w u v h lu lv
