@@ -6,6 +6,8 @@
 #![tactic(auto)]
 
 mod plain;
+mod entries;
+mod kinds;
 mod reading;
 mod values;
 

@@ -1,5 +1,6 @@
 // The value that the bytes give, and tests of single values.
-ghost use Rattle.std.specs.Prelude.{◌≡◌, option_map, IfOk};
+ghost use Rattle.std.specs.Prelude.{◌≡◌, if◌then◌else◌, Some, None, option_map, IfOk};
+ghost use Rattle.obd_doc.specs.Values.{is_name_text, text_of};
 ghost use Rattle.std.specs.List.{list_all};
 ghost use Rattle.serde_json.specs.View.{view, items_view};
 ghost use Rattle.obd_doc.specs.Plain.{value_of, is_name_byte, is_name, name_of, is_empty_list as is_empty_data, is_one as is_one_data, field_count as field_count_of, has, only_list as only_list_of};
@@ -40,6 +41,14 @@ fn is_name(word: &str) -> bool
     ensures { result ≡ is_name word.now }
 {
     1 <= word.len() && word.len() <= 16 && has_name_bytes(word.as_bytes())
+}
+
+// The text of a value that is a name.
+pub(crate) fn name_text(value: &Value) -> Option<&str>
+    ensures { option_map (λ s. s.now) result ≡ (if is_name_text (view value.now) then Some (text_of (view value.now)) else None) }
+{
+    let word = value.as_str()?;
+    if is_name(word) { Some(word) } else { None }
 }
 
 // The value as a name, where it is one.

@@ -1,0 +1,33 @@
+// The entries of a document: crossings, curves, twists and limits.
+
+use obd_base::{Items, Name};
+
+/// One crossing
+#[derive(Drop)]
+pub struct Cross {
+    pub label: Name,
+    pub occurrence: u8,
+    pub place: u32,
+}
+
+/// A curve by its name and its crossings in order.
+#[derive(Drop)]
+pub struct NamedPath {
+    pub name: Name,
+    pub path: Items<Cross>,
+}
+
+/// An entry of the twist word: a curve by its name, and the power, from -64 to 64 and not 0. A power `n` is
+/// `|n|` single twists, positive ones where `n` is above 0.
+#[derive(Drop)]
+pub struct NamedTwist {
+    pub name: Name,
+    pub power: i32,
+}
+
+/// The greatest numbers of finger moves and of generators that a run may come to.
+#[derive(Clone, Copy, Debug, PartialEq, Eq)]
+pub struct Limits {
+    pub moves: u32,
+    pub generators: u32,
+}
