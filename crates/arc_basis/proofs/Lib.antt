@@ -1,4 +1,4 @@
-mod LabelCounts
+pub mod LabelCounts
 pub mod Laws
 mod Paired
 pub mod Places
