@@ -1,5 +1,5 @@
 -- The exits of a path on the joined polygon, as they are read crossing by crossing.
-use Rattle.std.proofs.Common.{◌≡◌, ℕ, ◌+◌, ◌-◌, ◌<◌, ◌≤◌, cond, eqb, List, [], ◌∷◌, ◌++◌, map, length, take, get_or, filter_map, Option, Some, None, option_map, refl, sym, ap, ap₂, ◌∙◌, arith}
+use Rattle.std.proofs.Common.{◌≡◌, ℕ, ◌+◌, ◌-◌, ◌<◌, cond, eqb, List, [], ◌∷◌, ◌++◌, map, length, take, get_or, filter_map, Option, Some, None, option_map, sym, ap, ap₂, ◌∙◌}
 use Rattle.std.specs.List.{cons_option, position}
 use Rattle.std.proofs.lemmas.List.{append-nil, take_more}
 use Rattle.std.proofs.lemmas.List.Elements.{filter_map-append}

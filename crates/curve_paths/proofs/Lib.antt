@@ -1,8 +1,11 @@
 mod PathChords
 mod Built
+mod Carried
+mod CurveEnds
 pub mod Examples
 mod Exits
 mod Finds
+mod Kept
 mod LabelPlaces
 mod Numbers
 mod Orders

@@ -1,6 +1,6 @@
 -- Crossings by number, the points of labels and the places that are met, as the tables are filled crossing by crossing.
-use Rattle.std.proofs.Common.{◌≡◌, ℕ, zero, suc, ◌+◌, ◌*◌, ◌<◌, ◌≤◌, Bool, true, false, cond, ◌&&◌, ◌||◌, eqb, ltb, List, [], ◌∷◌, ◌++◌, map, length, take, get_or, set, Option, Some, refl, sym, subst, ap, ap₂, ◌∙◌, arith, inl, inr}
-use Rattle.std.specs.List.{count_by, list_all, list_any, position, range_with_len}
+use Rattle.std.proofs.Common.{◌≡◌, ℕ, zero, suc, ◌+◌, ◌*◌, ◌<◌, ◌≤◌, Bool, true, false, ◌&&◌, ◌||◌, eqb, List, [], ◌∷◌, ◌++◌, map, length, take, get_or, set, Option, Some, refl, sym, subst, ap, ap₂, ◌∙◌, arith, inl, inr}
+use Rattle.std.specs.List.{list_all, list_any, position, range_with_len}
 use Rattle.std.specs.Option.{IsSome, is_some}
 use Rattle.std.specs.Str.{bytes_eq}
 use Rattle.std.proofs.lemmas.Bool.{cases_Bool, cases_eq, cases_lt, eq-eqb, ne_eqb}
@@ -8,7 +8,7 @@ use Rattle.std.proofs.lemmas.List.{get_or-set_same, get_or-set_other, length-set
 use Rattle.std.proofs.lemmas.List.Folds.{list_any-append}
 use Rattle.std.proofs.lemmas.List.FromFn.{fill_by_all, get_or-map-range_with_len}
 use Rattle.std.proofs.lemmas.List.Sums.{count_by-le-length, sum_by_push}
-use Rattle.obd_base.specs.Lists.{Mem, below}
+use Rattle.obd_base.specs.Lists.{below}
 use Rattle.obd_base.proofs.lists.Below.{bit}
 use Rattle.page_surface.specs.Labels.{Label, label_number, labels_of}
 use Rattle.curve_paths.specs.declared.crossing.Crossing.{Crossing}
@@ -17,7 +17,7 @@ use Rattle.curve_paths.specs.Paths.{has_label_places, is_known, is_met_at, label
 use Rattle.curve_paths.specs.PlaceTables.{AreMet}
 use Rattle.arc_basis.proofs.Places.{found_place, no_place}
 use Rattle.curve_paths.proofs.PathChords.{same_at}
-use Rattle.curve_paths.proofs.LabelPlaces.{are_all_met, places_by_met}
+use Rattle.curve_paths.proofs.LabelPlaces.{places_by_met}
 
 -- a crossing by default
 abbrev pub nowhere : Cross

@@ -1,8 +1,8 @@
 -- The place order of a page: its sides in a row, each once, and the numbers that they take.
-use Rattle.std.proofs.Common.{◌≡◌, ℕ, suc, zero, ◌+◌, ◌-◌, ◌*◌, ◌<◌, ◌≤◌, Bool, true, cond, eqb, List, [], ◌∷◌, map, length, take, get_or, refl, sym, subst, ap, ap₂, ◌∙◌, arith, inl, inr}
+use Rattle.std.proofs.Common.{◌≡◌, ℕ, suc, zero, ◌+◌, ◌-◌, ◌*◌, ◌<◌, ◌≤◌, true, cond, eqb, List, [], ◌∷◌, map, length, take, get_or, refl, sym, subst, ap, ap₂, ◌∙◌, arith, inl, inr}
 use Rattle.std.specs.List.{before_first, list_any, position_or_len, sum_by}
 use Rattle.std.proofs.lemmas.Bool.{cases_Bool, cases_eq, eq-eqb, ne_eqb, eqb-true, and_from, and_parts, false≢true}
-use Rattle.std.proofs.lemmas.List.{length-map, length-take}
+use Rattle.std.proofs.lemmas.List.{length-take}
 use Rattle.std.proofs.lemmas.List.FromFn.{length-map-range_with_len}
 use Rattle.std.proofs.lemmas.List.Sums.{sum_by-cons}
 use Rattle.obd_base.specs.Lists.{Mem, below}
@@ -16,7 +16,7 @@ use Rattle.page_surface.proofs.Sides.{length-side_labels}
 use Rattle.arc_basis.proofs.LabelCounts.{each_once, side_named, sides_in_row, stands}
 use Rattle.arc_basis.proofs.Places.{any_counted, mem_at, only_place}
 use Rattle.curve_paths.specs.declared.crossing.Crossing.{Crossing}
-use Rattle.curve_paths.specs.Paths.{crossing_at, entered_side, following, label_points, path_spot, row, side_start}
+use Rattle.curve_paths.specs.Paths.{crossing_at, entered_side, following, label_points, path_spot, row}
 use Rattle.curve_paths.specs.PlaceTables.{ArePlaced, AreSides, AreStarts, IsPlaceOrder, start_of}
 use Rattle.curve_paths.proofs.Numbers.{count_read, few_points}
 use Rattle.curve_paths.proofs.PathChords.{same_at}

@@ -1,5 +1,5 @@
 -- The rules of a path, one after another, and what is known of a path that keeps them.
-use Rattle.std.proofs.Common.{◌≡◌, ℕ, suc, ◌+◌, ◌<◌, ◌≤◌, Bool, true, false, eqb, ltb, not, List, [], ◌∷◌, map, length, get_or, find, All, Option, Some, None, option_map, refl, sym, subst, ap, ◌∙◌, arith, zero-add, inl, inr}
+use Rattle.std.proofs.Common.{◌≡◌, ℕ, suc, ◌<◌, ◌≤◌, Bool, true, false, eqb, ltb, not, List, [], ◌∷◌, length, get_or, find, Option, Some, None, option_map, refl, sym, subst, ap, ◌∙◌, arith, zero-add, inl, inr}
 use Rattle.std.specs.List.{list_all, list_any, position}
 use Rattle.std.specs.Option.{is_some}
 use Rattle.std.proofs.lemmas.Bool.{cases_Bool, not-false, false≢true, ltb-false}
@@ -19,15 +19,15 @@ use Rattle.curve_paths.specs.declared.refusal.CurveRefusal.TheVariants.{EmptyPat
 use Rattle.curve_paths.specs.PathRules.{crossing_pair, first_of, refusal_of, when}
 use Rattle.curve_paths.specs.PathTables.{HaveOccurrences}
 use Rattle.curve_paths.specs.Paths.{crossing, crossings, has_label_places, is_known, is_within, path_chords}
-use Rattle.curve_paths.specs.PlaceTables.{AreNumbered, ArePlaced}
+use Rattle.curve_paths.specs.PlaceTables.{ArePlaced}
 use Rattle.curve_paths.proofs.LabelPlaces.{place_below}
 use Rattle.curve_paths.proofs.Numbers.{some_place}
 
 -- the first rule that fails, from what each finds
 abbrev answer : Bool → Option ℕ → Bool → ℕ → (ℕ → Label) → Option ℕ → Option ℕ → Option ChordPair → Option CurveRefusal
 answer empty unknown long count name wrong apart pair = first_of (
-  when empty EmptyPath ∷ option_map UnknownLabel unknown ∷ when long (TooManyCrossings count) ∷ option_map (λ label. PlaceWrong (name label)) wrong
-  ∷ option_map NotAdjacent apart ∷ option_map (λ e. Crosses e.first e.second) pair ∷ [])
+    when empty EmptyPath ∷ option_map UnknownLabel unknown ∷ when long (TooManyCrossings count) ∷ option_map (λ label. PlaceWrong (name label)) wrong
+    ∷ option_map NotAdjacent apart ∷ option_map (λ e. Crosses e.first e.second) pair ∷ [])
 
 module _ (empty : Bool) (unknown : Option ℕ) (long : Bool) (count : ℕ) (name : ℕ → Label) (wrong apart : Option ℕ) (pair : Option ChordPair) where
   unknown_told : (n : ℕ) → empty ≡ false → unknown ≡ Some n → answer empty unknown long count name wrong apart pair ≡ Some (UnknownLabel n)

@@ -186,8 +186,14 @@ fn chord_after(page: &Page, crossings: &[Crossing], order: &PlaceOrder, at: usiz
     requires order { IsPlaceOrder page.now crossings.now order.now.counts.items order.now.starts.items }
     ensures { result ≡ path_chord page.now crossings.now at }
 {
-    let Crossing { side: left, place: entry } = crossings[at];
-    let Crossing { side: next, place: exit } = next_crossing(crossings, at);
+    let Crossing {
+        side: left,
+        place: entry,
+    } = crossings[at];
+    let Crossing {
+        side: next,
+        place: exit,
+    } = next_crossing(crossings, at);
     let from = order.spot(other(left), entry);
     let to = order.spot(next, exit);
     PathChord { from, to }

@@ -104,11 +104,12 @@ impl PageCurve {
         ensures curve { IfOk result (λ found. IfSome found (λ curve. IsCurve (joined_polygon basis.now) curve)) }
     {
         let alloc = *self.crossings.allocator();
+        let polygon = basis.polygon();
         let exits = joined_exits(alloc, &self.crossings, &self.counts, basis)?;
         if exits.is_empty() {
             return Ok(None);
         }
-        Ok(Some(Curve::of(alloc, basis.polygon(), exits)?))
+        Ok(Some(Curve::of(alloc, polygon, exits)?))
     }
 }
 

@@ -27,11 +27,7 @@ pub(crate) fn point_counts(
 }
 
 // For each label, which of its places below 32 are met, in blocks of 32. Linear in both.
-fn met_table(
-    alloc: Global,
-    crossings: &[Crossing],
-    label_count: u32,
-) -> Result<Vec<bool>, NoMemory>
+fn met_table(alloc: Global, crossings: &[Crossing], label_count: u32) -> Result<Vec<bool>, NoMemory>
     requires numbered { AreNumbered crossings.now label_count }
     ensures { IfOk result (λ met. AreMet crossings.now label_count met.items) }
 {

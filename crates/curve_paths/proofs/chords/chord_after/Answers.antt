@@ -34,7 +34,7 @@ pub spot-to-requires-clause-occurrence : goal.spot-to-requires-clause-occurrence
 spot-to-requires-clause-occurrence c = (followed_named c.args.page.now c.args.crossings.now c.args.order.now.counts.items c.args.order.now.starts.items c.requires.order c.requires.placed c.args.at c.requires.at c.next_crossing-next.result c.next_crossing-next.ensures).1
 
 pub returns : goal.returns
-returns c = 
+returns c =
     ap₂ (λ a b. let x : Chord = record { from = a; to = b } in x)
     (entered_spot c.args.page.now c.args.crossings.now c.args.order.now.counts.items c.args.order.now.starts.items c.requires.order c.requires.placed c.args.at c.requires.at c.index-crossings-at.result c.index-crossings-at-2.result c.other.result c.other.ensures _ c.spot-from.ensures)
     (followed_spot c.args.page.now c.args.crossings.now c.args.order.now.counts.items c.args.order.now.starts.items c.requires.order c.requires.placed c.args.at c.requires.at c.next_crossing-next.result c.next_crossing-next.ensures _ c.spot-to.ensures)

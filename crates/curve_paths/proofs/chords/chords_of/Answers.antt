@@ -1,5 +1,4 @@
-use Rattle.std.proofs.Common.{[], ◌∷◌, ◌++◌, map, sym, ap, ap₂, ◌∙◌, arith}
-use Rattle.obd_base.specs.Lists.{below}
+use Rattle.std.proofs.Common.{[], ◌∷◌, ◌++◌, sym, ap₂, ◌∙◌, arith}
 use Rattle.curve_paths.specs.Paths.{path_chord}
 use Rattle.std.proofs.lemmas.List.FromFn.{map-range_with_len_more}
 use Rattle.curve_paths.proofs.chords.chords_of.Goals as goal

@@ -1,4 +1,4 @@
-use Rattle.std.proofs.Common.{◌≡◌, suc, ◌-◌, length, sym, ◌∙◌, true, false, arith}
+use Rattle.std.proofs.Common.{suc, ◌-◌, length, sym, ◌∙◌, arith}
 use Rattle.curve_paths.specs.PathRules.{do_cross, pair}
 use Rattle.curve_paths.proofs.Finds.{number_found, no_number}
 use Rattle.curve_paths.proofs.PathChords.{cross_read}

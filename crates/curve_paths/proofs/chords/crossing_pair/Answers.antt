@@ -1,4 +1,4 @@
-use Rattle.std.proofs.Common.{◌≡◌, suc, ◌-◌, length, map, sym, ap, ◌∙◌, option_map, find, arith}
+use Rattle.std.proofs.Common.{suc, ◌-◌, length, map, sym, ap, ◌∙◌, option_map, arith}
 use Rattle.std.specs.List.{range_with_len}
 use Rattle.curve_paths.specs.PathRules.{do_cross, pair}
 use Rattle.curve_paths.proofs.Finds.{find-map, list_found, no_list}

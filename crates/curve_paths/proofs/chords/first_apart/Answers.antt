@@ -1,4 +1,4 @@
-use Rattle.std.proofs.Common.{not, length, sym, ap, ◌∙◌, arith}
+use Rattle.std.proofs.Common.{not, length, sym, ◌∙◌, arith}
 use Rattle.std.proofs.lemmas.Bool.{not_from_false}
 use Rattle.curve_paths.specs.Paths.{is_within}
 use Rattle.curve_paths.proofs.Finds.{number_found, no_number}

@@ -1,4 +1,4 @@
-use Rattle.std.proofs.Common.{nat_eq, sym, ap, ap₂, ◌∙◌, arith}
+use Rattle.std.proofs.Common.{nat_eq, ap, ap₂, ◌∙◌}
 use Rattle.page_surface.specs.declared.page.SideLabel.{SideLabel}
 use Rattle.page_surface.specs.Joining.{other_side}
 use Rattle.curve_paths.specs.declared.crossing.Crossing.{Crossing}
@@ -11,7 +11,7 @@ pub other-from-requires : goal.other-from-requires
 other-from-requires c = (at_crossing _ _ c.requires.placed c.args.at _ c.requires.at).1
 
 pub polygon_of-requires-clause-label : goal.polygon_of-requires-clause-label
-polygon_of-requires-clause-label c = 
+polygon_of-requires-clause-label c =
     let n = at_crossing _ _ c.requires.placed c.args.at c.index-crossings-at.result c.requires.at in
     rw (ap (λ (s : SideLabel). s.label) c.other-from.ensures) n.0
 

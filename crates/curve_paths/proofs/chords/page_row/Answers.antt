@@ -1,4 +1,4 @@
-use Rattle.std.proofs.Common.{[], ◌++◌, get_or, length, flat_map, sym, ap, ◌∙◌, arith}
+use Rattle.std.proofs.Common.{[], ◌++◌, get_or, flat_map, sym, ap, ◌∙◌, arith}
 use Rattle.std.proofs.lemmas.List.{take_all}
 use Rattle.page_surface.specs.Labels.{side_labels_of}
 use Rattle.page_surface.proofs.Sides.{length-side_labels_of}

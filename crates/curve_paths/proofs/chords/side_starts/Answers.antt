@@ -1,4 +1,4 @@
-use Rattle.std.proofs.Common.{sym, ap, refl, ◌∙◌, arith}
+use Rattle.std.proofs.Common.{refl, arith}
 use Rattle.curve_paths.proofs.Starts.{all_starts, in_table, named, starts_more}
 use Rattle.curve_paths.proofs.chords.side_starts.Goals as goal
 

@@ -1,4 +1,4 @@
-use Rattle.std.proofs.Common.{◌≡◌, false, get_or, not, length, sym, ap, ◌∙◌, arith}
+use Rattle.std.proofs.Common.{◌≡◌, false, get_or, not, sym, ap, ◌∙◌, arith}
 use Rattle.std.proofs.lemmas.Bool.{not_from_false}
 use Rattle.curve_paths.specs.Paths.{is_known}
 use Rattle.curve_paths.proofs.Finds.{place_found, none_found}

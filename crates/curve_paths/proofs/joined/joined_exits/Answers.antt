@@ -1,4 +1,4 @@
-use Rattle.std.proofs.Common.{length, sym, ap, ◌∙◌, arith}
+use Rattle.std.proofs.Common.{ap, ◌∙◌, arith}
 use Rattle.arc_basis.proofs.Places.{mem_read}
 use Rattle.curve_paths.proofs.Exits.{counts_long, exit_more, exit_same, points_read}
 use Rattle.curve_paths.proofs.joined.joined_exits.Goals as goal

@@ -1,4 +1,4 @@
-use Rattle.std.proofs.Common.{◌+◌, ◌*◌, false, get_or, sym, ◌∙◌, arith}
+use Rattle.std.proofs.Common.{◌+◌, ◌*◌, false, get_or, sym, arith}
 use Rattle.curve_paths.proofs.Finds.{all_pass, one_fails}
 use Rattle.curve_paths.proofs.places.is_met_below.Goals as goal
 

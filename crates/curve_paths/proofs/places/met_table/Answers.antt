@@ -1,4 +1,4 @@
-use Rattle.std.proofs.Common.{subst, sym, ap, ◌∙◌, arith}
+use Rattle.std.proofs.Common.{subst, arith}
 use Rattle.std.proofs.lemmas.List.{take_all}
 use Rattle.arc_basis.proofs.Places.{mem_read}
 use Rattle.curve_paths.specs.PlaceTables.{AreMet}

@@ -1,4 +1,4 @@
-use Rattle.std.proofs.Common.{◌≡◌, subst, take, sym, ap, ◌∙◌, arith}
+use Rattle.std.proofs.Common.{subst, arith}
 use Rattle.std.proofs.lemmas.List.{get_or_read, take_all}
 use Rattle.arc_basis.proofs.Places.{mem_read}
 use Rattle.curve_paths.proofs.Numbers.{AreCounts, counts_more, few_so_far, whole_counts}

@@ -1,4 +1,4 @@
-use Rattle.std.proofs.Common.{List, ℕ, subst, sym, ap, ◌∙◌}
+use Rattle.std.proofs.Common.{List, ℕ, subst, ◌∙◌}
 use Rattle.curve_paths.specs.PlaceTables.{IsPlaceOrder}
 use Rattle.curve_paths.proofs.Orders.{good_sides, order_made}
 use Rattle.curve_paths.proofs.chords.PlaceOrder.of.Goals as goal

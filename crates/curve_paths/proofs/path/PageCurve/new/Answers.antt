@@ -1,12 +1,12 @@
-use Rattle.std.proofs.Common.{◌≡◌, ℕ, [], None, Some, length, map, find, not, false, eqb, ltb, sym, subst, ap, ◌∙◌, arith}
-use Rattle.std.proofs.lemmas.Bool.{le-ltb, lt-ltb}
+use Rattle.std.proofs.Common.{[], length, map, find, not, sym, ap, ◌∙◌, arith}
+use Rattle.std.proofs.lemmas.Bool.{le-ltb}
 use Rattle.std.proofs.lemmas.Option.{get_or_from_slice_get}
 use Rattle.obd_base.specs.Lists.{below}
 use Rattle.page_surface.specs.Labels.{labels_of}
 use Rattle.curve_paths.specs.PathRules.{crossing_pair}
 use Rattle.curve_paths.specs.Paths.{crossings, has_label_places, is_within, label_points, path_chords}
 use Rattle.curve_paths.proofs.Built.{as_many, chord_count, counts_alone, counts_size, few_labels, found_of, kept_as, numbered_as, placed_as, seen_as, wrong_as}
-use Rattle.curve_paths.proofs.Rules.{labels_known, no_crossing, none_fails, not_adjacent, place_wrong, too_many, two_cross, unknown_label}
+use Rattle.curve_paths.proofs.Rules.{labels_known, none_fails, not_adjacent, place_wrong, two_cross}
 use Rattle.curve_paths.proofs.path.PageCurve.new.Goals as goal
 
 pub numbered-requires : goal.numbered-requires
@@ -109,7 +109,7 @@ invariant_of-result c =
     kept_as c.args.page.now _ c.args.path.now _ _ _ c.in_ok-page_names.ensures c.in_ok-copied_path.ensures (record {
       is_page = c.label_count.ensures.valid;
       is_path = none_fails c.args.page.now c.args.path.now some c.in_default.ensures few right within
-    (c.in_default-crossing_pair.ensures ∙ ap crossing_pair (c.deref-7.ensures.value ∙ (c.in_ok-chords.ensures ∙ ap (path_chords c.args.page.now) (c.deref-6.ensures.value ∙ c.in_ok-crossings.ensures))));
+          (c.in_default-crossing_pair.ensures ∙ ap crossing_pair (c.deref-7.ensures.value ∙ (c.in_ok-chords.ensures ∙ ap (path_chords c.args.page.now) (c.deref-6.ensures.value ∙ c.in_ok-crossings.ensures))));
       occurrences = c.requires.occurrences;
       numbered_are = c.in_ok-crossings.ensures;
       counts_are = ap (λ v. v.items) c.into_counts.ensures
