@@ -4,40 +4,24 @@ use Rattle.std.specs.List.{list_any, sum_by, count_by, find}
 use Rattle.std.specs.Str.{bytes_eq}
 use Rattle.std.proofs.lemmas.Bool.{cases_Bool, false≢true, ltb-false, eqb-true}
 use Rattle.std.proofs.lemmas.List.Sums.{sum_by-cons}
-use Rattle.std.proofs.lemmas.List.Folds.{list_any-append}
 use Rattle.std.proofs.lemmas.Slice.Eq.{bytes_eq-Decides}
 use Rattle.page_surface.specs.declared.refusal.PageRefusal.{PageRefusal}
 use Rattle.page_surface.specs.declared.refusal.PageRefusal.TheVariants.{TooManyLabels, LabelCount}
 use Rattle.page_surface.specs.Labels.{Label, with_label, with_labels, labels_of, all_sides, occurrences_of}
+use Rattle.page_surface.proofs.LabelNumbers.{has_new, has_still}
 use Rattle.page_surface.specs.Page.{IsPage, when, first_of, refusals}
 
 -- the label stands among the others
 abbrev pub IsAmong : List Label → Label → Type 0
 IsAmong labels label = list_any (bytes_eq label) labels ≡ true
 
-same_bytes : (xs : Label) → bytes_eq xs xs ≡ true
-same_bytes xs = (bytes_eq-Decides xs xs).1 refl
-
 either_way : (xs ys : Label) → bytes_eq xs ys ≡ true → bytes_eq ys xs ≡ true
 either_way xs ys e = (bytes_eq-Decides ys xs).1 (sym ((bytes_eq-Decides xs ys).0 e))
 
--- a label stays among the labels when one more is read
-among_with_label : (labels : List Label) (label more : Label) → IsAmong labels label → IsAmong (with_label labels more) label
-among_with_label labels label more among = elim (cases_Bool (list_any (bytes_eq more) labels)) [
-  | inl is ↦ rw is among
-  | inr is ↦ rw (is, list_any-append (bytes_eq label) labels (more ∷ []), among) refl
-]
-
--- a label that is read is among the labels
-label_among_with_label : (labels : List Label) (label : Label) → IsAmong (with_label labels label) label
-label_among_with_label labels label = elim (cases_Bool (list_any (bytes_eq label) labels)) [
-  | inl is ↦ rw is is
-  | inr is ↦ rw (is, list_any-append (bytes_eq label) labels (label ∷ []), is, same_bytes label) refl
-]
-
+-- a label stays among the labels when more sides are read
 pub among_with_labels : (sides labels : List Label) (label : Label) → IsAmong labels label → IsAmong (with_labels labels sides) label
 among_with_labels [] labels label among = among
-among_with_labels (side ∷ sides) labels label among = among_with_labels sides (with_label labels side) label (among_with_label labels label side among)
+among_with_labels (side ∷ sides) labels label among = among_with_labels sides (with_label labels side) label (has_still labels side label among)
 
 -- each of some sides has its label among the labels
 abbrev pub AreAmong : List Label → List Label → Type 0
@@ -47,7 +31,7 @@ AreAmong labels (side ∷ sides) = IsAmong labels side × AreAmong labels sides
 pub sides_among_with_labels : (sides labels : List Label) → AreAmong (with_labels labels sides) sides
 sides_among_with_labels [] labels = tt
 sides_among_with_labels (side ∷ sides) labels =
-    (among_with_labels sides (with_label labels side) side (label_among_with_label labels side), sides_among_with_labels sides (with_label labels side))
+    (among_with_labels sides (with_label labels side) side (has_new labels side), sides_among_with_labels sides (with_label labels side))
 
 -- one side more doesn't lower the count
 at_least : (labels : List Label) (side : Label) (sides : List Label)

@@ -1,12 +1,12 @@
 -- The number of a label is its place among the labels that appeared, and stays as more appear.
-use Rattle.std.proofs.Common.{◌≡◌, ℕ, suc, ◌+◌, ◌<◌, Bool, true, false, cond, not, ◌||◌, List, [], ◌∷◌, ◌++◌, length, get_or, refl, sym, ◌∙◌, arith, inl, inr}
+use Rattle.std.proofs.Common.{◌≡◌, ℕ, suc, ◌+◌, ◌<◌, ◌≤◌, Bool, true, false, cond, not, ◌||◌, List, [], ◌∷◌, ◌++◌, length, get_or, refl, sym, ◌∙◌, arith, inl, inr}
 use Rattle.std.specs.List.{list_any, position_or_len}
 use Rattle.std.specs.Str.{bytes_eq}
 use Rattle.std.proofs.lemmas.Bool.{false≢true, ne_eqb, eq-eqb, cond_both, cond-true, cond-false, or_left, or_right, or_from, cases_lt}
 use Rattle.std.proofs.lemmas.List.{get_or_append_left, get_or_push, length_push}
 use Rattle.std.proofs.lemmas.List.Folds.{list_any-append, list_any_at, position_or_len_push}
 use Rattle.std.proofs.lemmas.Slice.Eq.{bytes_eq-Decides}
-use Rattle.page_surface.specs.Labels.{Label, with_label, with_labels, label_number}
+use Rattle.page_surface.specs.Labels.{Label, all_sides, with_label, with_labels, labels_of, label_number}
 
 module _ {X : Type 0} (p : X → Bool) where
   -- the first that passes, where one does
@@ -107,3 +107,22 @@ at_with_labels labels (x ∷ names) at = at_with_labels (with_label labels x) na
 -- so the number of each label of some sides is its place
 pub at_places : (names : List Label) → AtPlaces (with_labels [] names)
 at_places names = at_with_labels [] names (λ i l. absurd (omega arith))
+
+-- a label more or none
+length-with_label : (labels : List Label) (label : Label) → (length labels ≤ length (with_label labels label)) × (length (with_label labels label) ≤ length labels + 1)
+length-with_label labels label =
+    cond_both (list_any (bytes_eq label) labels) labels (labels ++ label ∷ []) (λ x. (length labels ≤ length x) × (length x ≤ length labels + 1))
+    (λ _. (omega arith, omega arith)) (λ _. (omega (arith, length_push labels label), omega (arith, length_push labels label)))
+
+-- no label goes, and there are at most as many more as sides
+pub length-with_labels : (labels names : List Label)
+    → (length labels ≤ length (with_labels labels names)) × (length (with_labels labels names) ≤ length labels + length names)
+length-with_labels labels [] = (omega arith, omega arith)
+length-with_labels labels (name ∷ names) =
+    let one = length-with_label labels name in
+    let rest = length-with_labels (with_label labels name) names in
+    (omega (arith, one, rest), omega (arith, one, rest))
+
+-- there are no more labels than sides
+pub few_labels : (polygons : List (List Label)) → length (labels_of polygons) ≤ length (all_sides polygons)
+few_labels polygons = omega (arith, length-with_labels [] (all_sides polygons))

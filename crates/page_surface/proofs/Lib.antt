@@ -1,7 +1,7 @@
-mod BothSides
-pub mod FewSides
+mod Empty
 pub mod EmbeddedTest
 pub mod Examples
+pub mod FewSides
 mod Filled
 mod Firsts
 mod Keys
@@ -10,7 +10,11 @@ pub mod Laws
 pub mod Names
 mod Numbered
 pub mod Partners
-mod Rules
+mod ReachedMarks
+mod ReadSoFar
+mod SideNumbers
+mod SideTables
 pub mod Sides
 mod Tables
 pub mod WordLaws
+mod WrongLabels

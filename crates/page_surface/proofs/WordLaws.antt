@@ -85,7 +85,7 @@ Steps-cons : (p : Polygon) (s : ℕ) {w v : List ℕ} → Steps p w v → Steps 
 Steps-cons p s none = none
 Steps-cons p s (more (a, b, k, e, f) r) = more (s ∷ a, b, k, ap (λ x. s ∷ x) e, ap (λ x. s ∷ x) f) (Steps-cons p s r)
 
-Steps-join : (p : Polygon) {u v w : List ℕ} → Steps p u v → Steps p v w → Steps p u w
+pub Steps-join : (p : Polygon) {u v w : List ℕ} → Steps p u v → Steps p v w → Steps p u w
 Steps-join p none r = r
 Steps-join p (more s q) r = more s (Steps-join p q r)
 

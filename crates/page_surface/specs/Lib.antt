@@ -1,8 +1,10 @@
 pub mod Drawing
 pub mod Joining
 pub mod Labels
+pub mod Marks
 pub mod Page
 pub mod PageTables
 pub mod Polygon
+pub mod Stages
 pub mod Tables
 pub mod Words

@@ -6,10 +6,13 @@
 //! a label that is read first is 0, the other is 1. The form of pages is this project's own.
 #![tactic(auto)]
 
+mod label_tables;
 mod labelled;
 mod page;
 mod polygon;
+mod reached;
 mod refusal;
+mod rules;
 
 pub use page::{Page, SideLabel};
 pub use polygon::Polygon;

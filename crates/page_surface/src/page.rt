@@ -7,9 +7,9 @@ ghost use Rattle.page_surface.specs.Joining.{side, has_side};
 ghost use Rattle.page_surface.specs.Page.{IsPage, refusal_of};
 
 use crate::PageRefusal;
-use crate::labelled::{Labelled, first_wrong_label, label_sides};
-use indexmap::IndexSet;
-use obd_base::{Items, LabelNo, Name, NoMemory};
+use crate::labelled::Labelled;
+use crate::rules::{joining_refusal, label_refusal, polygon_refusal};
+use obd_base::LabelNo;
 use std::alloc::Global;
 use std::marker::Model;
 
@@ -24,62 +24,52 @@ pub struct SideLabel {
 /// list of its polygons, each the list of its labels. Its type keeps that the polygons are a page.
 #[derive(Drop)]
 pub struct Page {
-    polygons: Items<Items<Name>>,
-    labels: IndexSet<String>,
-    sides: Items<Items<SideLabel>>,
+    labelled: Labelled,
+    first_polygons: Vec<u32>,
+    second_polygons: Vec<u32>,
 }
 
 impl Model for Page {
-    ghost use Rattle.std.specs.Prelude.{List, ℕ, map, string_bytes};
+    ghost use Rattle.std.specs.Prelude.{List, ℕ};
     ghost use Rattle.page_surface.specs.PageTables.{ArePageTables};
 
     ghost Value = { List (List (List ℕ)) };
 
-    ghost view = { λ p. p.polygons };
+    ghost view = { λ p. p.labelled };
 
-    ghost invariant = { λ p. ArePageTables p.polygons (map string_bytes p.labels.keys) p.sides };
+    ghost invariant = { λ p. ArePageTables p.labelled p.first_polygons.items p.second_polygons.items };
 }
 
 impl Page {
     /// The page of some polygons, each given by its labels read counterclockwise. The rules are tried in
-    /// the order of `PageRefusal`, and the first that fails is named. For now there is one polygon, so the
-    /// rules on the number of polygons and on joining always hold.
+    /// the order of `PageRefusal`, and the first that fails is named.
     ///
-    /// Linear in the sides, with one pass for each of at most 24 labels.
+    /// Expected time linear in the sides, and for what is joined to one another once more for each of at
+    /// most 16 polygons.
     pub fn new(alloc: Global, polygons: &[Vec<String>]) -> Result<Page, PageRefusal>
-        requires one { length polygons.now ≡ 1 }
+        requires few_polygons { length polygons.now < 2 ^ 32 }
         requires few { length (all_sides (map (λ p. map string_bytes p.items) polygons.now)) < 2 ^ 32 }
         ensures page { IfOk result (λ page. page ≡ map (λ p. map string_bytes p.items) polygons.now) }
         ensures accepted { OnOk result (IsPage (map (λ p. map string_bytes p.items) polygons.now)) }
         ensures refused { IfErr result (λ refusal. refusal ≢ PageRefusal.NoMemory
             → refusal_of (map (λ p. map string_bytes p.items) polygons.now) ≡ Some refusal) }
     {
-        let names = polygons[0].as_slice();
-        if names.is_empty() {
-            return Err(PageRefusal::EmptyPolygon { polygon: 0 });
+        if let Some(refusal) = polygon_refusal(polygons) {
+            return Err(refusal);
         }
-        let Labelled { labels, sides } = label_sides(alloc, names)?;
-        let label_count = labels.len() as u32;
-        if label_count > MOST_LABELS {
-            return Err(PageRefusal::TooManyLabels { count: label_count });
+        let labelled = Labelled::of(alloc, polygons)?;
+        if let Some(refusal) = label_refusal(alloc, &labelled)? {
+            return Err(refusal);
         }
-        if let Some((label, count)) = first_wrong_label(labels.as_slice(), names) {
-            return Err(PageRefusal::LabelCount {
-                label: Name::from_str(alloc, label)?,
-                count,
-            });
+        if let Some(refusal) = joining_refusal(alloc, &labelled)? {
+            return Err(refusal);
         }
-        if label_count > MOST_ARCS {
-            return Err(PageRefusal::TooManyArcs { arcs: label_count });
-        }
-        let mut polygons = Items::new(alloc);
-        polygons.push(copied_names(alloc, names)?)?;
-        let mut side_labels = Items::new(alloc);
-        side_labels.push(sides)?;
+        let first_polygons = labelled.polygons_of(alloc, 0)?;
+        let second_polygons = labelled.polygons_of(alloc, 1)?;
         Ok(Page {
-            polygons,
-            labels,
-            sides: side_labels,
+            labelled,
+            first_polygons,
+            second_polygons,
         })
     }
 
@@ -88,7 +78,7 @@ impl Page {
         ensures value { result ≡ length (labels_of self.now) }
         ensures valid { IsPage self.now }
     {
-        self.labels.len() as u32
+        self.labelled.label_count()
     }
 
     /// The number of the label with this name, and `None` exactly for an unknown name. Expected time linear
@@ -96,8 +86,7 @@ impl Page {
     pub fn label(&self, name: &str) -> Option<LabelNo>
         ensures { result ≡ position (bytes_eq name.now) (labels_of self.now) }
     {
-        let number = self.labels.get_index_of(name)?;
-        Some(LabelNo::new(number as u32))
+        self.labelled.label(name)
     }
 
     /// The name of a label.
@@ -105,7 +94,7 @@ impl Page {
         requires { label < length (labels_of self.now) }
         ensures { slice_get (labels_of self.now) label ≡ Some result.now }
     {
-        self.labels.as_slice()[label.number() as usize].as_str()
+        self.labelled.name(label)
     }
 
     /// The number of the polygon on which an occurrence of a label lies.
@@ -114,18 +103,19 @@ impl Page {
         requires occurrence { occurrence ≤ 1 }
         ensures { result ≡ position_or_len (has_side (side label occurrence)) (side_labels_of [] self.now) }
     {
-        let _ = &self.polygons;
-        // The page has one polygon for now.
-        0
+        if occurrence == 0 {
+            self.first_polygons[label.number() as usize]
+        } else {
+            self.second_polygons[label.number() as usize]
+        }
     }
 
     /// The number of polygons.
     pub fn polygon_count(&self) -> u32
         ensures value { result ≡ length self.now }
-        ensures one { result ≡ 1 }
         ensures valid { IsPage self.now }
     {
-        self.polygons.len() as u32
+        self.labelled.polygon_count()
     }
 
     /// The number of sides of a polygon.
@@ -133,7 +123,7 @@ impl Page {
         requires { polygon < length self.now }
         ensures { result ≡ length (slice_index_or self.now polygon []) }
     {
-        self.polygons.as_slice()[polygon as usize].len() as u32
+        self.labelled.sides_of(polygon)
     }
 
     /// The label and the occurrence of a side of a polygon.
@@ -142,23 +132,6 @@ impl Page {
         requires side { side < length (slice_index_or self.now polygon []) }
         ensures { slice_get (slice_index_or (side_labels_of [] self.now) polygon []) side ≡ Some result }
     {
-        self.sides.as_slice()[polygon as usize].as_slice()[side as usize]
+        self.labelled.label_at(polygon, side)
     }
 }
-
-// Names of their own with the texts of some strings.
-fn copied_names(alloc: Global, names: &[String]) -> Result<Items<Name>, NoMemory>
-    ensures { IfOk result (λ copied. copied ≡ map string_bytes names.now) }
-{
-    let mut copied = Items::new(alloc);
-    for name in names {
-        copied.push(Name::from_str(alloc, name.as_str())?)?;
-    }
-    Ok(copied)
-}
-
-/// The greatest number of labels of a page.
-const MOST_LABELS: u32 = 24;
-
-/// The greatest number of arcs.
-const MOST_ARCS: u32 = 8;

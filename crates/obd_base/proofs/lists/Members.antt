@@ -22,7 +22,7 @@ module _ {A : Type 0} where
   mem_right x (y ∷ xs) ys m = inr (mem_right x xs ys m)
 
   -- a member splits its list
-  split : (x : A) (ys : List A) → Mem x ys → (a : List A) × (b : List A) × (ys ≡ a ++ (x ∷ b))
+  pub split : (x : A) (ys : List A) → Mem x ys → (a : List A) × (b : List A) × (ys ≡ a ++ (x ∷ b))
   split x [] m = absurd m
   split x (y ∷ ys) (inl e) = ([], ys, ap (λ z. z ∷ ys) (sym e))
   split x (y ∷ ys) (inr m) = let (a, b, e) = split x ys m in (y ∷ a, b, ap (λ zs. y ∷ zs) e)
