@@ -1,2 +1,14 @@
+mod PathChords
+mod Built
+mod Carried
+mod CurveEnds
 pub mod Examples
+mod Exits
+mod Finds
+mod Kept
+mod LabelPlaces
+mod Numbers
+mod Orders
+mod Rules
+mod Starts
 pub mod Tests

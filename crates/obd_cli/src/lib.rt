@@ -11,6 +11,7 @@ mod line;
 mod status;
 mod top;
 
-pub use certificate::{Certificate, Cross, Finger, NamedPath, NamedTwist, Pivot, Verdict};
+pub use certificate::{Certificate, Finger, NamedPath, NamedTwist, Pivot, Verdict};
+pub use curve_paths::Cross;
 pub use status::Status;
 pub use top::{DOCUMENT_LIMIT, run};

@@ -6,4 +6,6 @@
 #[cfg(test)]
 mod calls;
 #[cfg(test)]
+mod curves;
+#[cfg(test)]
 mod runs;
