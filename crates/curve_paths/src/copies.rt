@@ -19,8 +19,8 @@ fn polygon_names(alloc: Global, page: &Page, polygon: u32) -> Result<Items<Name>
     Ok(names)
 }
 
-// The polygons of a page, each the list of its labels. Linear in the sides.
-pub(crate) fn page_names(alloc: Global, page: &Page) -> Result<Items<Items<Name>>, NoMemory>
+/// The polygons of a page, each the list of its labels by name. Linear in the sides.
+pub fn page_names(alloc: Global, page: &Page) -> Result<Items<Items<Name>>, NoMemory>
     ensures { IfOk result (λ names. names ≡ page.now) }
 {
     let mut names = Items::new(alloc);
@@ -30,8 +30,8 @@ pub(crate) fn page_names(alloc: Global, page: &Page) -> Result<Items<Items<Name>
     Ok(names)
 }
 
-// A path of its own that is equal to this one. Linear in the names.
-pub(crate) fn copied_path(alloc: Global, path: &[Cross]) -> Result<Items<Cross>, NoMemory>
+/// A path of its own that is equal to this one. Linear in the names.
+pub fn copied_path(alloc: Global, path: &[Cross]) -> Result<Items<Cross>, NoMemory>
     ensures { IfOk result (λ copied. copied ≡ path.now) }
 {
     let mut copied = Items::new(alloc);

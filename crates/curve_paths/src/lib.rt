@@ -16,6 +16,7 @@ mod path;
 mod places;
 mod refusal;
 
+pub use copies::{copied_path, page_names};
 pub use curve::Curve;
 pub use path::{Cross, PageCurve};
 pub use refusal::CurveRefusal;

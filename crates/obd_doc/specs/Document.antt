@@ -20,8 +20,10 @@ use Rattle.obd_doc.specs.declared.entries.Limits.{Limits}
 use Rattle.obd_doc.specs.declared.entries.NamedPath.{NamedPath}
 use Rattle.obd_doc.specs.declared.entries.NamedTwist.{NamedTwist}
 use Rattle.obd_doc.specs.declared.fields.Fields.{Fields}
+use Rattle.obd_doc.specs.declared.reading.Unread.{Unread}
+use Rattle.obd_doc.specs.declared.reading.Unread.TheVariants as unread
 use Rattle.obd_doc.specs.declared.refusal.DocRefusal.{DocRefusal}
-use Rattle.obd_doc.specs.declared.refusal.DocRefusal.TheVariants.{Json, Field, Number, TooMany, Page, RepeatedCurve, Curve, UnknownCurve}
+use Rattle.obd_doc.specs.declared.refusal.DocRefusal.TheVariants.{Json, Field, Number, TooMany, Page, RepeatedCurve, Curve, UnknownCurve, NoMemory}
 use Rattle.obd_doc.specs.declared.refusal.FieldName.{FieldName}
 use Rattle.obd_doc.specs.declared.refusal.FieldName.TheVariants as field
 
@@ -34,6 +36,12 @@ abbrev pub first_of : List (Option DocRefusal) → Option DocRefusal
 first_of [] = None
 first_of (Some refusal ∷ rest) = Some refusal
 first_of (None ∷ rest) = first_of rest
+
+-- the refusal of a field whose value isn't read
+abbrev pub refused : Unread → FieldName → DocRefusal
+refused unread.Form field = Field field
+refused unread.Number field = Number field
+refused unread.NoMemory field = NoMemory
 
 -- the rules of a field that has to be there: its form, and then its numbers
 abbrev pub wanted : {A : Type 0} → Kind A → FieldName → Option Data → List (Option DocRefusal)
@@ -69,12 +77,15 @@ slides = array_of slide_side
 abbrev pub is_field : List ℕ → Bool
 is_field name = list_any (bytes_eq name) (codes "open_book" ∷ codes "polygons" ∷ codes "curves" ∷ codes "twists" ∷ codes "slides" ∷ codes "limits" ∷ [])
 
+-- a document is an object with no other fields
+abbrev pub shape_rules : Data → List (Option DocRefusal)
+shape_rules d = when (not (is_some (as_object d))) (Field field.Top) ∷ when (not (list_all is_field (field_names d))) (Field field.Other) ∷ []
+
 -- the rules of the fields, each field's before the next one's
 abbrev pub field_rules : Data → List (Option DocRefusal)
 field_rules d =
-    when (not (is_some (as_object d))) (Field field.Top)
-    ∷ when (not (list_all is_field (field_names d))) (Field field.Other)
-    ∷ wanted version field.OpenBook (get (codes "open_book") d)
+    shape_rules d
+    ++ wanted version field.OpenBook (get (codes "open_book") d)
     ++ wanted polygons field.Polygons (get (codes "polygons") d)
     ++ wanted curves field.Curves (get (codes "curves") d)
     ++ wanted twists field.Twists (get (codes "twists") d)

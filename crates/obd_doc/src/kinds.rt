@@ -8,9 +8,10 @@ ghost use Rattle.obd_doc.specs.Kinds.{cross, is_limit, limit, limits, name, name
 ghost use Rattle.obd_doc.specs.Reading.{Reads};
 ghost use Rattle.obd_doc.specs.Values.{elements, field_names, is_array_of, is_number};
 
-use crate::entries::{Cross, Limits, NamedPath, NamedTwist};
+use crate::entries::{Limits, NamedPath, NamedTwist};
 use crate::reading::{Readable, Unread};
 use crate::values::name_text;
+use curve_paths::Cross;
 use obd_base::{Items, Name, SideNo};
 use serde_json::Value;
 use std::alloc::Global;
@@ -23,7 +24,7 @@ fn is_number(value: &Value) -> bool
 }
 
 // A whole number from one to another.
-fn whole_from(value: &Value, least: u32, most: u32) -> Result<u32, Unread>
+pub(crate) fn whole_from(value: &Value, least: u32, most: u32) -> Result<u32, Unread>
     ensures { Reads (whole_from least most) (view value.now) result }
 {
     if !is_number(value) {
@@ -166,7 +167,7 @@ fn limit(value: &Value, name: &str, least: u32) -> Result<u32, Unread>
 }
 
 /// The greatest limit, which is taken where one is absent.
-const GREATEST_LIMIT: u32 = 20_000;
+pub(crate) const GREATEST_LIMIT: u32 = 20_000;
 
 impl Readable for Limits {
     ghost kind = { limits };
