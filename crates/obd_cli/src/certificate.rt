@@ -9,21 +9,8 @@ use crate::line::{
 };
 use curve_paths::Cross;
 use obd_base::{ArcNo, Exit, GenNo, Items, Name, NoMemory, SideNo, StrandNo, Text};
+use obd_doc::{NamedPath, NamedTwist};
 use std::alloc::Global;
-
-/// A curve by its name and its crossings in order.
-#[derive(Drop)]
-pub struct NamedPath {
-    pub name: Name,
-    pub path: Items<Cross>,
-}
-
-/// An entry of the twist word: a curve by its name, and the power, which isn't 0.
-#[derive(Drop)]
-pub struct NamedTwist {
-    pub name: Name,
-    pub power: i32,
-}
 
 /// A finger move: the chord of a strand that is pushed, and the segment of a side into which it goes.
 #[derive(Clone, Copy, Debug, PartialEq, Eq)]
