@@ -1,8 +1,11 @@
 // Curves on pages: each refusal with its values, the order in which they are tried, and the curve on the
 // joined polygon.
+ghost use Rattle.std.specs.Prelude.{◌≡◌};
+
 use crate::making::{page_of, path_of};
 use arc_basis::join;
 use curve_paths::PageCurve;
+use obd_base::Exit;
 use page_surface::Page;
 use std::alloc::Global;
 use std::test::Fail;
@@ -93,40 +96,57 @@ fn a_path_of_33_crossings_is_too_long(rt: HostRuntime) -> Result<(), Fail> {
     Ok(())
 }
 
+// Exits, each by its side and place.
+fn exits_text(alloc: Global, exits: &[Exit]) -> Result<String, Fail> {
+    let mut text = String::new(alloc);
+    for exit in exits {
+        write!(text, "{}.{} ", exit.side.number(), exit.place)?;
+    }
+    Ok(text)
+}
+
+// The exits of a curve on the joined polygon of a page.
+fn joined_text(alloc: Global, page: &Page, curve: &PageCurve) -> Result<String, Fail>
+    requires { curve.now.page ≡ page.now }
+{
+    if page.polygon_count() != 1 {
+        return Err(Fail::new("several polygons"));
+    }
+    let Ok(basis) = join(alloc, page) else {
+        return Err(Fail::new("no basis"));
+    };
+    match curve.through(&basis) {
+        Ok(Some(joined)) => exits_text(alloc, joined.exits()),
+        _ => Err(Fail::new("no curve")),
+    }
+}
+
+// The same of a path.
+fn leaves(alloc: Global, polygon: &str, path: &str) -> Result<String, Fail> {
+    let page = page_of(alloc, polygon)?;
+    let path = path_of(alloc, path)?;
+    if path.len() > 1000 {
+        return Err(Fail::new("too long"));
+    }
+    match PageCurve::new(alloc, &page, &path) {
+        Ok(curve) => joined_text(alloc, &page, &curve),
+        Err(_) => Err(Fail::new("refused")),
+    }
+}
+
 #[test]
 fn curves_leave_by_the_joined_sides(rt: HostRuntime) -> Result<(), Fail> {
     let alloc = rt.alloc();
     for (polygon, path, want) in [
-        ("AA", "A:0:0", "0.0"),
-        ("AA", "A:1:0", "1.0"),
-        ("ABAB", "A:0:0", "0.0"),
-        ("ABAB", "B:1:0", "3.0"),
-        ("ABAB", "A:0:0 B:1:0", "0.0 3.0"),
-        ("ABAB", "A:0:0 A:0:1 B:0:0", "0.0 0.1 1.0"),
-        ("ABAB", "A:1:0 A:1:1 B:0:0", "2.1 2.0 1.0"),
+        ("AA", "A:0:0", "0.0 "),
+        ("AA", "A:1:0", "1.0 "),
+        ("ABAB", "A:0:0", "0.0 "),
+        ("ABAB", "B:1:0", "3.0 "),
+        ("ABAB", "A:0:0 B:1:0", "0.0 3.0 "),
+        ("ABAB", "A:0:0 A:0:1 B:0:0", "0.0 0.1 1.0 "),
+        ("ABAB", "A:1:0 A:1:1 B:0:0", "2.1 2.0 1.0 "),
     ] {
-        let page = page_of(alloc, polygon)?;
-        let path = path_of(alloc, path)?;
-        if page.polygon_count() != 1 || path.len() > 1000 {
-            return Err(Fail::new("not one polygon"));
-        }
-        let Ok(curve) = PageCurve::new(alloc, &page, &path) else {
-            return Err(Fail::new("refused"));
-        };
-        let Ok(basis) = join(alloc, &page) else {
-            return Err(Fail::new("no basis"));
-        };
-        let Ok(Some(joined)) = curve.through(&basis) else {
-            return Err(Fail::new("no curve"));
-        };
-        let mut text = String::new(alloc);
-        for exit in joined.exits() {
-            if !text.is_empty() {
-                text.push(' ')?;
-            }
-            write!(text, "{}.{}", exit.side.number(), exit.place)?;
-        }
-        assert_eq!(rt; text.as_str(), want);
+        assert_eq!(rt; leaves(alloc, polygon, path)?.as_str(), want);
     }
     Ok(())
 }

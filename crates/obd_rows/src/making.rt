@@ -74,7 +74,7 @@ fn crossing_of(alloc: Global, word: &str) -> Result<Cross, Fail>
         return Err(Fail::new("no label"));
     };
     let Some((occurrence, place)) = numbers.split_once(':') else {
-        return Err(Fail::new("no occurrence"));
+        return Err(Fail::new("no number"));
     };
     let Ok(label) = Name::from_str(alloc, label) else {
         return Err(Fail::new("no memory"));
