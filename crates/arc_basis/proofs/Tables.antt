@@ -1,18 +1,17 @@
 -- The tables of sides, as they are filled and as they are read.
-use Rattle.std.proofs.Common.{◌≡◌, ℕ, ◌+◌, ◌<◌, ◌≤◌, Bool, true, false, cond, eqb, ◌&&◌, not, List, [], ◌∷◌, ◌++◌, map, length, take, get_or, set, Option, Some, None, refl, sym, ap, ap₂, subst, ◌∙◌, arith, inl, inr}
-use Rattle.std.specs.List.{position, position_or_len, slice_get}
+use Rattle.std.proofs.Common.{◌≡◌, ℕ, ◌+◌, ◌<◌, ◌≤◌, Bool, true, false, cond, eqb, ◌&&◌, not, List, [], ◌∷◌, ◌++◌, length, take, get_or, set, Option, Some, None, refl, sym, ap, ap₂, subst, ◌∙◌, arith, inl, inr}
+use Rattle.std.specs.List.{position, position_or_len}
 use Rattle.std.specs.Option.{IsSome, is_some, option_or}
 use Rattle.std.proofs.lemmas.Bool.{cases_eq, eq-eqb, ne_eqb, false≢true}
-use Rattle.std.proofs.lemmas.List.{append-nil, get_or-set_same, get_or-set_other, length-set, take_more, map-append, length-take-le, get_or_read, take_all}
+use Rattle.std.proofs.lemmas.List.{append-nil, get_or-set_same, get_or-set_other, length-set, take_more, length-take-le, get_or_read, take_all}
 use Rattle.std.proofs.lemmas.List.FromFn.{get_or-map-range_with_len, length-map-range_with_len, fill_by_all}
-use Rattle.std.proofs.lemmas.Option.{get_or_from_slice_get, slice_get_within}
 use Rattle.obd_base.specs.Lists.{Mem}
 use Rattle.page_surface.specs.declared.page.SideLabel.{SideLabel}
 use Rattle.page_surface.specs.Joining.{Joined, side, is_side}
 use Rattle.page_surface.specs.Polygon.{Polygon}
 use Rattle.arc_basis.specs.Basis.{joined_sides, label_count}
 use Rattle.arc_basis.specs.BasisTables.{AreAllFound, AreBasisTables, of_sides, side_table}
-use Rattle.arc_basis.proofs.Places.{found_place, mem_at, place_push}
+use Rattle.arc_basis.proofs.Places.{found_place, place_push}
 
 -- or nothing
 or_none : {X : Type 0} (o : Option X) → option_or o None ≡ o

@@ -1,4 +1,5 @@
 mod PathChords
+pub mod PathExamples
 mod Built
 mod Carried
 mod CurveEnds

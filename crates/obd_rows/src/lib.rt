@@ -8,4 +8,8 @@ mod calls;
 #[cfg(test)]
 mod curves;
 #[cfg(test)]
+mod making;
+#[cfg(test)]
+mod pages;
+#[cfg(test)]
 mod runs;
