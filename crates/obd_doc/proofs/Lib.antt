@@ -6,3 +6,4 @@ mod TwistsSoFar
 mod Rules
 mod SoFar
 mod Text
+pub mod Laws

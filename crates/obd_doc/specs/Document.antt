@@ -1,14 +1,12 @@
 -- What a document says, and the rules that it is refused by, tried in their order.
-use Rattle.std.specs.Prelude.{◌≡◌, ℕ, Bool, not, nat_lt, List, [], ◌∷◌, ◌++◌, map, take, length, position, slice_index_or, codes, is_none, is_some, Option, None, Some, option_map, option_and_then, if◌then◌else◌}
-use Rattle.std.specs.List.{flat_map, list_all, list_any, position_or_len}
+use Rattle.std.specs.Prelude.{◌≡◌, ℕ, Bool, not, nat_lt, List, [], ◌∷◌, ◌++◌, map, length, position, codes, is_none, is_some, Option, None, Some, option_map, if◌then◌else◌}
+use Rattle.std.specs.List.{All, list_all, list_any, position_or_len}
 use Rattle.std.specs.Option.{option_map_or}
 use Rattle.std.specs.Str.{bytes_eq}
 use Rattle.serde_json.specs.Data.{Data}
 use Rattle.serde_json.specs.Find.{as_object, get}
-use Rattle.obd_base.specs.Lists.{below}
 use Rattle.page_surface.specs.Labels.{Label}
-use Rattle.page_surface.specs.Page.{refusal_of as page_refusal}
-use Rattle.curve_paths.specs.declared.path.Cross.{Cross}
+use Rattle.page_surface.specs.Page.{IsPage, refusal_of as page_refusal}
 use Rattle.curve_paths.specs.PathRules.{refusal_of as curve_refusal}
 use Rattle.obd_doc.specs.Kinds.{limits, name, named_path, named_twist, slide_side, whole_from}
 use Rattle.obd_doc.specs.Reading.{Kind, array_of}
@@ -171,3 +169,9 @@ book_of f = record {
 -- the book of the bytes, where no rule fails
 abbrev pub book_read : List ℕ → Option Book
 book_read bytes = if is_none (refusal_of bytes) then option_map (λ d. book_of (fields_of d)) (value_of bytes) else None
+
+-- what is known of a book that was read: its polygons are a page, and each curve is one on that page
+pub record IsBook (book : Book) : Type 0 where
+  pub is_page : IsPage book.page
+  pub page_is : book.page ≡ book.polygons
+  pub curves_on_page : All (λ c. c.curve ≡ record { page = book.page; path = c.path }) book.curves
