@@ -10,6 +10,7 @@ mod Kept
 mod LabelPlaces
 mod Numbers
 mod Orders
+pub mod Ranges
 mod Rules
 mod Starts
 pub mod Tests

@@ -76,18 +76,24 @@ module _ (page : List (List Label)) (valid : IsPage page) where
       let n = named_in_row s (mem_at (row page) k none l) in
       only_place (is_side s) (row page) k none (once_in_row s.label s.occurrence n.0 n.1) l (itself s)
 
+  -- the sides and counts of as many labels are good for the table
+  pub good_sides : (counts : List ℕ) → length counts ≡ length (labels_of page) → ((label : ℕ) → label < length counts → get_or counts label 0 ≤ 32)
+      → (sides : List SideLabel) (xs : List ℕ) → sides ≡ row page → xs ≡ counts → AreSides sides xs
+  good_sides counts size few sides xs e f =
+      subst (λ (ys : List SideLabel). AreSides ys xs) (sym e) (subst (λ (ns : List ℕ). AreSides (row page) ns) (sym f) (record {
+        few = few_in_row;
+        few_points = few;
+        named = λ s m. let n = named_in_row s m in (omega (arith, size, n.0), n.1);
+        once = place_in_row;
+      }))
+
   module _ (cs : List Crossing) (counts : List ℕ) (few : length cs ≤ 32) (c : counts ≡ map (label_points cs) (below (length (labels_of page)))) where
     size : length counts ≡ length (labels_of page)
     size = ap length c ∙ length-map-range_with_len (label_points cs) 0 (length (labels_of page))
 
-    -- the sides and the counts are good for the table
-    pub good_sides : (sides : List SideLabel) → sides ≡ row page → AreSides sides counts
-    good_sides sides e = subst (λ (xs : List SideLabel). AreSides xs counts) (sym e) (record {
-      few = few_in_row;
-      few_points = λ label l. omega (arith, count_read cs counts (length (labels_of page)) label c (omega (arith, size)), few_points cs label, few);
-      named = λ s m. let n = named_in_row s m in (omega (arith, size, n.0), n.1);
-      once = place_in_row;
-    })
+    -- no label has more points than there are crossings
+    pub few_counts : (label : ℕ) → label < length counts → get_or counts label 0 ≤ 32
+    few_counts label l = omega (arith, count_read cs counts (length (labels_of page)) label c (omega (arith, size)), few_points cs label, few)
 
     -- the table is the place order's
     pub order_made : (sides : List SideLabel) (starts : List ℕ) → sides ≡ row page → AreStarts sides counts starts → IsPlaceOrder page cs counts starts
@@ -189,3 +195,7 @@ module _ (page : List (List Label)) (cs : List Crossing) (counts starts : List �
     followed_spot r er =
         let n = followed_named in
         er ∙ (spot_read page cs counts starts order x.side x.place n.0 n.1 ∙ ap (λ (c : Crossing). path_spot page cs c.side c.place) is)
+
+-- the table of sides and counts that are these
+pub starts_as : (sides ys : List SideLabel) (counts xs starts : List ℕ) → ys ≡ sides → xs ≡ counts → AreStarts ys xs starts → AreStarts sides counts starts
+starts_as sides ys counts xs starts e f h = subst (λ (ns : List ℕ). AreStarts sides ns starts) f (subst (λ (zs : List SideLabel). AreStarts zs xs starts) e h)

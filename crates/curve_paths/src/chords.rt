@@ -88,15 +88,11 @@ fn side_starts(alloc: Global, sides: &[SideLabel], counts: &[u32]) -> Result<Vec
 
 impl PlaceOrder {
     // The place order for a path whose labels have so many points. Linear in the sides and the labels.
-    pub(crate) fn of(
-        alloc: Global,
-        page: &Page,
-        crossings: &[Crossing],
-        counts: Vec<u32>,
-    ) -> Result<PlaceOrder, NoMemory>
-        requires few { length crossings.now ≤ 32 }
-        requires counts { counts.items ≡ map (label_points crossings.now) (below (length (labels_of page.now))) }
-        ensures { IfOk result (λ order. IsPlaceOrder page.now crossings.now order.counts.items order.starts.items) }
+    pub(crate) fn of(alloc: Global, page: &Page, counts: Vec<u32>) -> Result<PlaceOrder, NoMemory>
+        requires size { length counts.items ≡ length (labels_of page.now) }
+        requires few { (label : ℕ) → label < length counts.items → slice_index counts.items label ≤ 32 }
+        ensures counts { IfOk result (λ order. order.counts.items ≡ counts.items) }
+        ensures starts { IfOk result (λ order. AreStarts (row page.now) counts.items order.starts.items) }
     {
         let sides = page_row(alloc, page)?;
         let starts = side_starts(alloc, &sides, &counts)?;

@@ -82,7 +82,7 @@ impl PageCurve {
         if let Some(at) = first_apart(page, &crossings) {
             return Err(CurveRefusal::NotAdjacent { at });
         }
-        let order = PlaceOrder::of(alloc, page, &crossings, counts)?;
+        let order = PlaceOrder::of(alloc, page, counts)?;
         let chords = chords_of(alloc, page, &crossings, &order)?;
         if let Some(ChordPair { first, second }) = crossing_pair(&chords) {
             return Err(CurveRefusal::Crosses { first, second });
