@@ -82,23 +82,37 @@ fn put_page_refusal(text: &mut Text, refusal: &PageRefusal) -> Result<(), NoMemo
             put_refused(text, 14, "TooManyLabels", &[], &[u64::from(*count)])
         }
         PageRefusal::LabelCount { label, count } => {
-            put_refused(text, 15, "LabelCount", &[label.as_str()], &[u64::from(*count)])
+            put_refused(
+                text,
+                15,
+                "LabelCount",
+                &[label.as_str()],
+                &[u64::from(*count)],
+            )
         }
         PageRefusal::NotJoined { reached, all } => {
-            put_refused(text, 16, "NotJoined", &[], &[u64::from(*reached), u64::from(*all)])
+            put_refused(
+                text,
+                16,
+                "NotJoined",
+                &[],
+                &[u64::from(*reached), u64::from(*all)],
+            )
         }
-        PageRefusal::TooManyArcs { arcs } => put_refused(text, 17, "TooManyArcs", &[], &[u64::from(*arcs)]),
+        PageRefusal::TooManyArcs { arcs } => put_refused(
+            text,
+            17,
+            "TooManyArcs",
+            &[],
+            &[u64::from(*arcs)],
+        ),
         PageRefusal::DiskPage => put_refused(text, 18, "DiskPage", &[], &[]),
         PageRefusal::NoMemory => Ok(()),
     }
 }
 
 // Appends the line of the refusal of a curve's path.
-fn put_curve_refusal(
-    text: &mut Text,
-    name: &str,
-    refusal: &CurveRefusal,
-) -> Result<(), NoMemory>
+fn put_curve_refusal(text: &mut Text, name: &str, refusal: &CurveRefusal) -> Result<(), NoMemory>
     ensures { OnOk result (text.new ≡ text.old ++ curve_line name.now refusal.now) }
 {
     match refusal {
@@ -112,9 +126,21 @@ fn put_curve_refusal(
         CurveRefusal::PlaceWrong { label } => {
             put_refused(text, 25, "PlaceWrong", &[name, label.as_str()], &[])
         }
-        CurveRefusal::NotAdjacent { at } => put_refused(text, 26, "NotAdjacent", &[name], &[u64::from(*at)]),
+        CurveRefusal::NotAdjacent { at } => put_refused(
+            text,
+            26,
+            "NotAdjacent",
+            &[name],
+            &[u64::from(*at)],
+        ),
         CurveRefusal::Crosses { first, second } => {
-            put_refused(text, 27, "Crosses", &[name], &[u64::from(*first), u64::from(*second)])
+            put_refused(
+                text,
+                27,
+                "Crosses",
+                &[name],
+                &[u64::from(*first), u64::from(*second)],
+            )
         }
         CurveRefusal::NoMemory => Ok(()),
     }
@@ -129,14 +155,26 @@ pub(crate) fn put_doc_refusal(text: &mut Text, refusal: &DocRefusal) -> Result<(
         DocRefusal::Field { field } => put_refused(text, 3, "Field", &[field_word(*field)], &[]),
         DocRefusal::Number { field } => put_refused(text, 4, "Number", &[field_word(*field)], &[]),
         DocRefusal::TooMany { field, count } => {
-            put_refused(text, 5, "Limits", &[field_word(*field)], &[u64::from(*count)])
+            put_refused(
+                text,
+                5,
+                "Limits",
+                &[field_word(*field)],
+                &[u64::from(*count)],
+            )
         }
         DocRefusal::Page { refusal } => put_page_refusal(text, refusal),
         DocRefusal::RepeatedCurve { name } => {
             put_refused(text, 21, "RepeatedCurve", &[name.as_str()], &[])
         }
         DocRefusal::Curve { name, refusal } => put_curve_refusal(text, name.as_str(), refusal),
-        DocRefusal::UnknownCurve { twist } => put_refused(text, 31, "UnknownCurve", &[], &[u64::from(*twist)]),
+        DocRefusal::UnknownCurve { twist } => put_refused(
+            text,
+            31,
+            "UnknownCurve",
+            &[],
+            &[u64::from(*twist)],
+        ),
         DocRefusal::NoMemory => Ok(()),
     }
 }

@@ -51,13 +51,7 @@ fn too_long(alloc: Global) -> Result<Answer, NoMemory>
     ensures { IfOk result (λ answer. answer ≡ too_long) }
 {
     let mut text = Text::new(alloc);
-    put_refused(
-        &mut text,
-        1,
-        "InputLong",
-        &[],
-        &[DOCUMENT_LIMIT as u64],
-    )?;
+    put_refused(&mut text, 1, "InputLong", &[], &[DOCUMENT_LIMIT as u64])?;
     Ok(Answer {
         status: Status::Refused,
         text,
@@ -158,11 +152,7 @@ fn answer_to(alloc: Global, command: Command, bytes: &[u8]) -> Result<Answer, No
 }
 
 // The answer to what is read, or the status that stands in its place.
-fn answer_read<S: Source>(
-    alloc: Global,
-    command: Command,
-    source: &mut S,
-) -> Result<Answer, Status>
+fn answer_read<S: Source>(alloc: Global, command: Command, source: &mut S) -> Result<Answer, Status>
     ensures answered { IfOk result (λ answer. AnswersAll command (S.left source.old) (S.left source.new) answer
         ⊎ AnswersLong (S.left source.old) (S.left source.new) answer) }
     ensures settled { IfOk result (λ answer. has_text answer.status ≡ true) }

@@ -37,7 +37,7 @@ module _ (page : List (List Label)) (paths : List NamedPath) (i : ℕ) (named : 
       record {
         names = keys_are ∙ (ap (λ ns. ns ++ named.name ∷ []) so_far.names ∙ sym names);
         made = pushed ∙ (ap (λ cs. cs ++ curve ∷ []) so_far.made ∙ (ap (λ x. map (curve_on page) (take i paths) ++ x ∷ []) made
-        ∙ (sym (map-append (curve_on page) (take i paths) (named ∷ [])) ∙ sym (ap (map (curve_on page)) one_more))));
+            ∙ (sym (map-append (curve_on page) (take i paths) (named ∷ [])) ∙ sym (ap (map (curve_on page)) one_more))));
         left = rules_are ∙ (skip (curve_rules page (map string_bytes keys) named) _ _ none refl ∙ ap (λ ns. first_of (all_curve_rules page ns (drop (i + 1) paths))) (sym names));
       }
 
@@ -49,8 +49,7 @@ module _ (page : List (List Label)) (paths : List NamedPath) (i : ℕ) (named : 
 pub all_made : (page : List (List Label)) (paths : List NamedPath) (i : ℕ) (keys : List (String Global)) (curves : List NamedCurve) → length paths ≤ i → AreCurvesSoFar page paths i keys curves
     → (map string_bytes keys ≡ names_of paths) × (first_of (all_curve_rules page [] paths) ≡ None) × (curves ≡ map (curve_on page) paths)
 all_made page paths i keys curves end so_far =
-    let all = take_all i paths end in
-    (
+    let all = take_all i paths end in (
       so_far.names ∙ ap names_of all,
       so_far.left ∙ ap (λ ps. first_of (all_curve_rules page (names_of (take i paths)) ps)) (drop_all i paths end),
       so_far.made ∙ ap (map (curve_on page)) all,

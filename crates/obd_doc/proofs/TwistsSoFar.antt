@@ -86,7 +86,7 @@ module _ (names : List (List ℕ)) (entries : List NamedTwist) (i : ℕ) (entry 
       record {
         known = none_more (is_unknown names) entries i entry within so_far.known is (ap not at.0);
         made = pushed ∙ (ap (λ ts. ts ++ twist ∷ []) so_far.made ∙ (ap (λ t. map (twist_about names) (take i entries) ++ t ∷ []) about
-        ∙ (sym (map-append (twist_about names) (take i entries) (entry ∷ [])) ∙ sym (ap (map (twist_about names)) more))));
+            ∙ (sym (map-append (twist_about names) (take i entries) (entry ∷ [])) ∙ sym (ap (map (twist_about names)) more))));
       }
 
 -- all twists

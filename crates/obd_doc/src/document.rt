@@ -63,10 +63,7 @@ fn strings(alloc: Global, names: &[Name]) -> Result<Vec<String>, NoMemory>
 }
 
 // The labels of some polygons as strings, fewer than 2^32 of both.
-fn polygon_strings(
-    alloc: Global,
-    polygons: &[Items<Name>],
-) -> Result<Vec<Vec<String>>, NoMemory>
+fn polygon_strings(alloc: Global, polygons: &[Items<Name>]) -> Result<Vec<Vec<String>>, NoMemory>
     ensures texts { IfOk result (λ strings. map (λ p. map string_bytes p.items) strings.items ≡ polygons.now) }
     ensures few_polygons { IfOk result (λ strings. length strings.items < 2 ^ 32) }
     ensures few { IfOk result (λ _. length (all_sides polygons.now) < 2 ^ 32) }
@@ -97,11 +94,7 @@ fn page(alloc: Global, polygons: &Items<Items<Name>>) -> Result<Page, DocRefusal
 }
 
 // Whether a name is none of those before it, among which it is then.
-fn is_new_name(
-    alloc: Global,
-    names: &mut IndexSet<String>,
-    name: &str,
-) -> Result<bool, NoMemory>
+fn is_new_name(alloc: Global, names: &mut IndexSet<String>, name: &str) -> Result<bool, NoMemory>
     ensures new { IfOk result (λ is_new. is_new ≡ not (list_any (bytes_eq name.now) (map string_bytes names.old.keys))) }
     ensures names { OnOk result (map string_bytes names.new.keys ≡ with_label (map string_bytes names.old.keys) name.now) }
 {

@@ -138,13 +138,7 @@ pub(crate) fn read_fields(alloc: Global, document: &Value) -> Result<Fields, Doc
             FieldName::Slides,
             Items::new(alloc),
         )?,
-        limits: optional(
-            alloc,
-            document,
-            "limits",
-            FieldName::Limits,
-            DEFAULT_LIMITS,
-        )?,
+        limits: optional(alloc, document, "limits", FieldName::Limits, DEFAULT_LIMITS)?,
     })
 }
 

@@ -8,6 +8,8 @@ mod calls;
 #[cfg(test)]
 mod curves;
 #[cfg(test)]
+mod documents;
+#[cfg(test)]
 mod making;
 #[cfg(test)]
 mod pages;
