@@ -1,6 +1,6 @@
 -- Lines of words.
-use Rattle.std.specs.Prelude.{ℕ, List, [], ◌∷◌, ◌++◌, decimal, length}
-use Rattle.std.specs.List.{flat_map}
+use Rattle.std.specs.Prelude.{ℕ, List, [], ◌∷◌, ◌++◌, decimal, length, map}
+use Rattle.std.specs.List.{enumerate_from, flat_map}
 use Rattle.obd_base.specs.declared.points.Exit.{Exit}
 
 -- words, each behind one space
@@ -22,3 +22,7 @@ listed many one words entries = line many (decimal (length entries) ∷ []) ++ l
 -- SIDE.PLACE
 abbrev pub exit_text : Exit → List ℕ
 exit_text exit = decimal exit.side ++ 46 ∷ decimal exit.place
+
+-- a line of a kind for each row, with its number and its words
+abbrev pub row_lines : {A : Type 0} → List ℕ → (A → List ℕ) → List (List A) → List ℕ
+row_lines kind word rows = lines kind (λ row. decimal row.0 ∷ map word row.1) (enumerate_from 0 rows)

@@ -1,10 +1,9 @@
 -- The text of a certificate, line by line.
 use Rattle.std.specs.Prelude.{ℕ, List, [], ◌∷◌, ◌++◌, codes, decimal, length, map}
 use Rattle.std.specs.Fmt.{signed_decimal}
-use Rattle.std.specs.List.{enumerate_from}
 use Rattle.curve_paths.specs.declared.path.Cross.{Cross}
 use Rattle.obd_base.specs.declared.points.Exit.{Exit}
-use Rattle.obd_cli.specs.Line.{exit_text, line, lines, listed}
+use Rattle.obd_cli.specs.Line.{exit_text, line, lines, listed, row_lines}
 use Rattle.obd_cli.specs.declared.certificate.Certificate.{Certificate}
 use Rattle.obd_cli.specs.declared.certificate.Finger.{Finger}
 use Rattle.obd_doc.specs.declared.entries.NamedPath.{NamedPath}
@@ -38,7 +37,7 @@ pivot_words pivot = decimal pivot.column ∷ decimal pivot.row ∷ []
 
 -- a line for each strand, with its number and its exits
 abbrev pub strand_lines : List ℕ → List (List Exit) → List ℕ
-strand_lines kind strands = lines kind (λ strand. decimal strand.0 ∷ map exit_text strand.1) (enumerate_from 0 strands)
+strand_lines kind strands = row_lines kind exit_text strands
 
 abbrev pub verdict_line : Verdict → List ℕ
 verdict_line (Chain columns) = line (codes "zero") (map decimal columns)

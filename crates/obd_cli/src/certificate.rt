@@ -2,10 +2,10 @@
 ghost use Rattle.std.specs.Prelude.{◌≡◌, ◌++◌, List, ℕ, [], ◌∷◌, decimal, map, OnOk, IfOk, codes, length};
 ghost use Rattle.std.specs.Fmt.{signed_decimal};
 ghost use Rattle.obd_cli.specs.Line.{line, lines, spaced};
-ghost use Rattle.obd_cli.specs.Text.{certificate_text, cross_text, drawing_text, finger_words, monodromy_text, outcome_text, page_text, path_words, pivot_words, polygon_words, slide_words, strand_lines, twist_words, verdict_line};
+ghost use Rattle.obd_cli.specs.Text.{certificate_text, cross_text, drawing_text, finger_words, monodromy_text, outcome_text, page_text, path_words, pivot_words, polygon_words, slide_words, twist_words, verdict_line};
 
 use crate::line::{
-    Entry, Word, put_count, put_line, put_list, put_number, put_numbered, put_signed, put_words,
+    Entry, Word, put_count, put_line, put_list, put_number, put_numbered, put_rows, put_signed, put_words,
 };
 use curve_paths::Cross;
 use obd_base::{ArcNo, Exit, GenNo, Items, Name, NoMemory, SideNo, StrandNo, Text};
@@ -125,17 +125,6 @@ impl Entry for Pivot {
     }
 }
 
-// A line for each strand, `strand` or `final`, with the strand's number and its exits.
-#[tactic(auto, unfolding(crate::specs::Line::lines))]
-fn put_strands(text: &mut Text, kind: &str, strands: &[Items<Exit>]) -> Result<(), NoMemory>
-    ensures { OnOk result (text.new ≡ text.old ++ strand_lines kind.now strands.now) }
-{
-    for (number, exits) in strands.iter().enumerate() {
-        put_numbered(text, kind, number as u64, exits.as_slice())?;
-    }
-    Ok(())
-}
-
 // A line for each polygon, with its labels.
 #[tactic(auto, unfolding(crate::specs::Line::lines))]
 fn put_polygons(text: &mut Text, polygons: &[Items<Name>]) -> Result<(), NoMemory>
@@ -174,9 +163,9 @@ fn put_drawing(text: &mut Text, certificate: &Certificate) -> Result<(), NoMemor
     let seams = certificate.seams.as_slice();
     put_numbered(text, "seams", seams.len() as u64, seams)?;
     put_line(text, "basis", certificate.basis.as_slice())?;
-    put_strands(text, "strand", certificate.strands.as_slice())?;
+    put_rows(text, "strand", certificate.strands.as_slice())?;
     put_list(text, "fingers", "finger", &certificate.fingers)?;
-    put_strands(text, "final", certificate.finals.as_slice())?;
+    put_rows(text, "final", certificate.finals.as_slice())?;
     put_number(text, "generators", certificate.generators)?;
     let contact = u64::from(certificate.contact.number());
     put_numbered(text, "contact", contact, certificate.points.as_slice())

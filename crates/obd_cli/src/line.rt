@@ -1,7 +1,7 @@
 // Lines of words. A line is its kind, further words behind one space each, and a line feed.
 ghost use Rattle.std.specs.Prelude.{◌≡◌, ◌++◌, List, ℕ, [], ◌∷◌, decimal, map, OnOk};
 ghost use Rattle.std.specs.Fmt.{signed_decimal};
-ghost use Rattle.obd_cli.specs.Line.{exit_text, line, lines, listed, spaced};
+ghost use Rattle.obd_cli.specs.Line.{exit_text, line, lines, listed, row_lines, spaced};
 
 use obd_base::{ArcNo, Exit, Items, Name, NoMemory, SideNo, Text};
 
@@ -160,4 +160,15 @@ pub(crate) fn put_numbered<T: Word>(
     text.put_number(number)?;
     put_words(text, words)?;
     text.put("\n")
+}
+
+// Appends a line of a kind for each row, with its number and its words.
+#[tactic(auto, unfolding(crate::specs::Line::lines))]
+pub(crate) fn put_rows<T: Word>(text: &mut Text, kind: &str, rows: &[Items<T>]) -> Result<(), NoMemory>
+    ensures { OnOk result (text.new ≡ text.old ++ row_lines kind.now T.word rows.now) }
+{
+    for (number, words) in rows.iter().enumerate() {
+        put_numbered(text, kind, number as u64, words.as_slice())?;
+    }
+    Ok(())
 }

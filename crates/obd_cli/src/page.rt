@@ -1,0 +1,2 @@
+// The answer of the command `page`.
+ghost use Rattle.std.specs.Prelude.{◌≡◌, ◌++◌, OnOk};
