@@ -1,12 +1,11 @@
 -- The words of the identity are words.
-use Rattle.std.proofs.Common.{◌≡◌, ℕ, ◌+◌, ◌*◌, ◌/◌, ◌<◌, ◌≤◌, List, [], ◌∷◌, ◌++◌, map, length, get_or, refl, sym, ◌∙◌, ap, ap₂, subst, arith, rules, All}
-use Rattle.std.specs.List.{sum_by}
+use Rattle.std.proofs.Common.{◌≡◌, ℕ, ◌+◌, ◌<◌, ◌≤◌, List, [], ◌∷◌, ◌++◌, map, length, get_or, sym, ◌∙◌, ap₂, subst, arith, rules, All}
 use Rattle.std.proofs.lemmas.List.FromFn.{get_or-map-range_with_len, length-map-range_with_len, map-range_with_len_more}
 use Rattle.std.proofs.lemmas.List.Sums.{sum_by-le}
 use Rattle.obd_base.specs.Lists.{below}
 use Rattle.page_surface.specs.Polygon.{IsPolygon, Polygon, arc_count, first_side, second_side, sides}
 use Rattle.curve_paths.specs.Curves.{identity_words}
-use Rattle.twist_words.specs.Powers.{AreWords, letters}
+use Rattle.twist_words.specs.Powers.{AreWords}
 
 module _ (p : Polygon) where
   -- the word of one strand more

@@ -1,14 +1,14 @@
 -- One single twist, strand by strand.
 use Rattle.std.proofs.Common.{◌≡◌, ℕ, ◌+◌, ◌*◌, ◌^◌, ◌<◌, ◌≤◌, List, [], ◌∷◌, ◌++◌, map, length, take, get_or, refl, sym, ◌∙◌, ap, ap₂, arith, All, length-take-le, zero-add}
-use Rattle.std.specs.Prelude.{Result, Ok, Err}
-use Rattle.std.specs.List.{enumerate_from, sum_by}
+use Rattle.std.specs.Prelude.{Ok, Err}
+use Rattle.std.specs.List.{enumerate_from}
 use Rattle.std.proofs.lemmas.Bool.{lt-ltb, le-ltb}
 use Rattle.std.proofs.lemmas.List.{length-map, map-append, take_more, take_all}
 use Rattle.std.proofs.lemmas.List.FromFn.{length-enumerate_from}
 use Rattle.std.proofs.lemmas.List.Sums.{sum_by_push}
 use Rattle.obd_base.specs.declared.points.Exit.{Exit}
 use Rattle.obd_base.specs.declared.points.Sign.{Sign}
-use Rattle.page_surface.specs.Polygon.{Polygon, arc_count, first_side, second_side, sides}
+use Rattle.page_surface.specs.Polygon.{Polygon, first_side, second_side, sides}
 use Rattle.page_surface.specs.Words.{reduced}
 use Rattle.curve_paths.specs.Curves.{image, twisted}
 use Rattle.twist_words.specs.Powers.{AreWords, letters, limited, turned_by}

@@ -1,6 +1,5 @@
-use Rattle.std.proofs.Common.{◌≡◌, ◌∙◌, ◌+◌, ap, arith, sym}
-use Rattle.page_surface.specs.Polygon.{arc_count}
-use Rattle.twist_words.proofs.Turning.{turned_few, turned_long, turned_words, turning_more}
+use Rattle.std.proofs.Common.{◌+◌, ap, arith}
+use Rattle.twist_words.proofs.Turning.{turned_words, turning_more}
 use Rattle.twist_words.proofs.once.turned_once.Goals as goal
 
 pub loop-arc-preserved : goal.loop-arc-preserved
