@@ -1,0 +1,4 @@
+pub mod Numbered
+mod FirstWords
+mod Turning
+mod Turns
