@@ -1,5 +1,5 @@
--- A run that ends with Done has decided a book, and what a run ends with.
-use Rattle.std.proofs.Common.{◌≡◌, ℕ, ◌≤◌, List, ◌++◌, length, Bool, true, false, Option, Some, None, is_some, ◌⊎◌, inl, inr, refl, sym, ◌∙◌, ap, subst, arith, cond, ltb, length-append}
+-- A run that ends with Done has finished its command, and what a run ends with.
+use Rattle.std.proofs.Common.{◌≡◌, ℕ, ◌≤◌, List, ◌++◌, length, Bool, true, false, Option, Some, None, Result, Ok, Err, is_some, ◌⊎◌, inl, inr, refl, sym, ◌∙◌, ap, subst, arith, cond, ltb, length-append}
 use Rattle.std.specs.Io.KnownBytes.{Consumes, Appends, IsAtEnd}
 use Rattle.std.proofs.lemmas.Bool.{lt-ltb, le-ltb}
 use Rattle.std.proofs.lemmas.List.{append-nil}
@@ -7,47 +7,73 @@ use Rattle.std.specs.Option.{option_map_or}
 use Rattle.obd_doc.specs.Document.{book_read, refusal_of}
 use Rattle.obd_doc.specs.declared.book.Book.{Book}
 use Rattle.obd_doc.specs.declared.refusal.DocRefusal.{DocRefusal}
-use Rattle.obd_cli.specs.Run.{AnswersBuilt, AnswersDoc, Certifies, Decided, IsFault, Owes, Told, book_status, has_text, not_built, status_owed}
+use Rattle.obd_cli.specs.Run.{AnswersBuilt, AnswersDoc, Finished, IsFault, Owes, Told, book_status, has_text, not_built, page_answer, status_owed}
+use Rattle.obd_cli.specs.Words.{book_words, words_text}
 use Rattle.obd_cli.specs.declared.status.Command.{Command}
 use Rattle.obd_cli.specs.declared.status.Command.TheVariants as command
 use Rattle.obd_cli.specs.declared.status.Answer.{Answer}
 use Rattle.obd_cli.specs.declared.status.Status.{Status}
 use Rattle.obd_cli.specs.declared.status.Status.TheVariants as status
+use Rattle.obd_cli.specs.declared.words.TooLong.{TooLong}
 use Rattle.obd_cli.specs.declared.top.TheConstants.{DOCUMENT_LIMIT}
 
--- the answer to a book with Done is its certificate
-built_done : (command : Command) (book : Book) (what : Option (List ℕ)) (answer : Answer) → AnswersBuilt command book what answer → answer.status ≡ status.Done → Certifies book answer
+-- an answer with Done is one to a book that is taken
+built_done : (command : Command) (book : Book) (what : Option (List ℕ)) (answer : Answer) → AnswersBuilt command book what answer → answer.status ≡ status.Done → AnswersBuilt command book None answer
 built_done command book (Some what) answer answers done = absurd (let bad = sym done ∙ ap (λ (a : Answer). a.status) answers in cc)
-built_done command.Decide book None answer answers done = answers
+built_done command book None answer answers done = answers
 
 -- and so is the answer to a document
 doc_done : (command : Command) (refusal : Option DocRefusal) (book : Option Book) (answer : Answer) → AnswersDoc command refusal book answer → answer.status ≡ status.Done
-    → (b : Book) × (book ≡ Some b) × Certifies b answer
+    → (b : Book) × (book ≡ Some b) × AnswersBuilt command b None answer
 doc_done command (Some refusal) book answer answers done = absurd (let bad = sym done ∙ ap (λ (a : Answer). a.status) answers in cc)
 doc_done command None (Some book) answer answers done = (book, refl, built_done command book (not_built command book) answer answers done)
 doc_done command None None answer answers done = absurd answers
 
-by_owed : (command : Option Command) (left now_left written now_written : Option (List ℕ)) (answer : Answer) → Owes command left now_left answer
-    → answer.status ≡ status.Done → Appends written now_written answer.text → Decided left now_left written now_written
-by_owed None left now_left written now_written answer owed done wrote = absurd (let bad = sym done ∙ ap (λ (a : Answer). a.status) owed in cc)
-by_owed (Some command) left now_left written now_written answer (inl all) done wrote =
-    let (book, read, certifies) = doc_done command (refusal_of all.bytes) (book_read all.bytes) answer all.answers done in
+-- the answer of `page` with Done has words
+page_done : (book : Book) (found : Result (List (List ℕ)) TooLong) (answer : Answer) → answer ≡ page_answer book found → answer.status ≡ status.Done
+    → (words : List (List ℕ)) × (found ≡ Ok words) × (answer.text ≡ words_text book words)
+page_done book (Ok words) answer is done = (words, refl, ap (λ (a : Answer). a.text) is)
+page_done book (Err long) answer is done = absurd (let bad = sym done ∙ ap (λ (a : Answer). a.status) is in cc)
+
+-- a command that ended with Done
+finished : (command : Command) (bytes : List ℕ) (left now_left written now_written : Option (List ℕ)) (book : Book) (answer : Answer) → Consumes left now_left bytes → IsAtEnd now_left
+    → book_read bytes ≡ Some book → AnswersBuilt command book None answer → answer.status ≡ status.Done → Appends written now_written answer.text → Finished (Some command) left now_left written now_written
+finished command.Decide bytes left now_left written now_written book answer gave ended read certifies done wrote =
     record {
-      bytes = all.bytes;
-      gave = all.gave;
-      ended = all.ended;
+      bytes = bytes;
+      gave = gave;
+      ended = ended;
       book = book;
       read = read;
       certificate = certifies.certificate;
       belongs = certifies.belongs;
       wrote = subst (Appends written now_written) certifies.text wrote;
     }
+finished command.Page bytes left now_left written now_written book answer gave ended read is done wrote =
+    let (words, words_are, text) = page_done book (book_words book) answer is done in
+    record {
+      bytes = bytes;
+      gave = gave;
+      ended = ended;
+      book = book;
+      read = read;
+      words = words;
+      words_are = words_are;
+      wrote = subst (Appends written now_written) text wrote;
+    }
+
+by_owed : (command : Option Command) (left now_left written now_written : Option (List ℕ)) (answer : Answer) → Owes command left now_left answer
+    → answer.status ≡ status.Done → Appends written now_written answer.text → Finished command left now_left written now_written
+by_owed None left now_left written now_written answer owed done wrote = absurd (let bad = sym done ∙ ap (λ (a : Answer). a.status) owed in cc)
+by_owed (Some command) left now_left written now_written answer (inl all) done wrote =
+    let (book, read, answers) = doc_done command (refusal_of all.bytes) (book_read all.bytes) answer all.answers done in
+    finished command all.bytes left now_left written now_written book answer all.gave all.ended read answers done wrote
 by_owed (Some command) left now_left written now_written answer (inr long) done wrote = absurd (let bad = sym done ∙ ap (λ (a : Answer). a.status) long.answers in cc)
 
--- what was told with Done is decided
-pub decided_from_told : (command : Option Command) (left now_left written now_written : Option (List ℕ)) (result : Status) → result ≡ status.Done
-    → Told command left now_left written now_written result → Decided left now_left written now_written
-decided_from_told command left now_left written now_written result done told = by_owed command left now_left written now_written told.answer told.owed (told.same ∙ done) told.wrote
+-- what was told with Done is finished
+pub finished_from_told : (command : Option Command) (left now_left written now_written : Option (List ℕ)) (result : Status) → result ≡ status.Done
+    → Told command left now_left written now_written result → Finished command left now_left written now_written
+finished_from_told command left now_left written now_written result done told = by_owed command left now_left written now_written told.answer told.owed (told.same ∙ done) told.wrote
 
 -- what a source that tells its bytes gave, up to its end, is all of them
 all_given : (bytes gave : List ℕ) (now_left : Option (List ℕ)) → Consumes (Some bytes) now_left gave → IsAtEnd now_left → gave ≡ bytes
@@ -60,16 +86,17 @@ as_many bytes gave None consumes = absurd consumes
 as_many bytes gave (Some rest) consumes = omega (arith, ap length consumes, length-append gave rest)
 
 -- the status of the answer to a book
-built_status : (command : Command) (book : Book) (what : Option (List ℕ)) (answer : Answer) → AnswersBuilt command book what answer → answer.status ≡ book_status what
+built_status : (command : Command) (book : Book) (what : Option (List ℕ)) (answer : Answer) → AnswersBuilt command book what answer → answer.status ≡ book_status command book what
 built_status command book (Some what) answer answers = ap (λ (a : Answer). a.status) answers
 built_status command.Decide book None answer answers = answers.done
+built_status command.Page book None answer answers = ap (λ (a : Answer). a.status) answers
 
 -- where a rule fails there is no book
 no_book : (bytes : List ℕ) (refusal : DocRefusal) → refusal_of bytes ≡ Some refusal → book_read bytes ≡ None
 no_book bytes refusal is = rw is refl
 
 doc_status : (command : Command) (bytes : List ℕ) (refusal : Option DocRefusal) (book : Option Book) (answer : Answer) → refusal_of bytes ≡ refusal → book_read bytes ≡ book
-    → AnswersDoc command refusal book answer → answer.status ≡ option_map_or (λ b. book_status (not_built command b)) book status.Refused
+    → AnswersDoc command refusal book answer → answer.status ≡ option_map_or (λ b. book_status command b (not_built command b)) book status.Refused
 doc_status command bytes (Some refusal) (Some book) answer is read answers = absurd (let bad = sym read ∙ no_book bytes refusal is in cc)
 doc_status command bytes (Some refusal) None answer is read answers = ap (λ (a : Answer). a.status) answers
 doc_status command bytes None (Some book) answer is read answers = built_status command book (not_built command book) answer answers
@@ -81,7 +108,7 @@ owed_status command bytes now_left answer (inl all) =
     let same = all_given bytes all.bytes now_left all.gave all.ended in
     let within : ltb DOCUMENT_LIMIT (length bytes) ≡ false = le-ltb DOCUMENT_LIMIT (length bytes) (omega (arith, all.within, ap length same)) in
     let by_bytes = doc_status command all.bytes (refusal_of all.bytes) (book_read all.bytes) answer refl refl all.answers in
-    rw within (by_bytes ∙ ap (λ bs. option_map_or (λ b. book_status (not_built command b)) (book_read bs) status.Refused) same)
+    rw within (by_bytes ∙ ap (λ bs. option_map_or (λ b. book_status command b (not_built command b)) (book_read bs) status.Refused) same)
 owed_status command bytes now_left answer (inr long) =
     let above : ltb DOCUMENT_LIMIT (length bytes) ≡ true = lt-ltb DOCUMENT_LIMIT (length bytes) (omega (arith, long.size, as_many bytes long.bytes now_left long.gave)) in
     rw above (ap (λ (a : Answer). a.status) long.answers)
@@ -96,12 +123,17 @@ completed bytes which command left now_left written now_written result is tells 
     inl (sym wrote.same ∙ owed_status which bytes now_left wrote.answer (subst (λ c. Owes c (Some bytes) now_left wrote.answer) is (subst (λ l. Owes command l now_left wrote.answer) tells wrote.owed)))
 
 -- the status of an answer to a book, or to none, isn't Usage
-book_no_usage : (what : Option (List ℕ)) → book_status what ≡ status.Usage → ⊥
-book_no_usage (Some what) is = let bad = is in cc
-book_no_usage None is = let bad = is in cc
+page_no_usage : (book : Book) (found : Result (List (List ℕ)) TooLong) → (page_answer book found).status ≡ status.Usage → ⊥
+page_no_usage book (Ok words) is = let bad = is in cc
+page_no_usage book (Err long) is = let bad = is in cc
 
-status_no_usage : (command : Command) (book : Option Book) → option_map_or (λ b. book_status (not_built command b)) book status.Refused ≡ status.Usage → ⊥
-status_no_usage command (Some book) is = book_no_usage (not_built command book) is
+book_no_usage : (command : Command) (book : Book) (what : Option (List ℕ)) → book_status command book what ≡ status.Usage → ⊥
+book_no_usage command book (Some what) is = let bad = is in cc
+book_no_usage command.Decide book None is = let bad = is in cc
+book_no_usage command.Page book None is = page_no_usage book (book_words book) is
+
+status_no_usage : (command : Command) (book : Option Book) → option_map_or (λ b. book_status command b (not_built command b)) book status.Refused ≡ status.Usage → ⊥
+status_no_usage command (Some book) is = book_no_usage command book (not_built command book) is
 status_no_usage command None is = let bad = is in cc
 
 -- a command's answer isn't the usage line

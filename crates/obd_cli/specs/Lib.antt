@@ -3,3 +3,4 @@ pub mod Line
 pub mod Refused
 pub mod Run
 pub mod Text
+pub mod Words

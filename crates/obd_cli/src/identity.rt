@@ -33,7 +33,7 @@ fn named_paths(alloc: Global, curves: &[NamedCurve]) -> Result<Items<NamedPath>,
 }
 
 // The arc of each side.
-fn basis(alloc: Global, polygon: &Polygon) -> Result<Items<ArcNo>, NoMemory>
+pub(crate) fn basis(alloc: Global, polygon: &Polygon) -> Result<Items<ArcNo>, NoMemory>
     ensures { IfOk result (λ arcs. arcs ≡ map (arc polygon.now) (below (sides polygon.now))) }
 {
     let mut arcs = Items::new(alloc);
@@ -76,7 +76,7 @@ fn contact_points(alloc: Global, diagram: &Diagram, count: u32) -> Result<Items<
 }
 
 // The names of some labels of the page.
-fn label_names(alloc: Global, page: &Page, labels: &[LabelNo]) -> Result<Items<Name>, NoMemory>
+pub(crate) fn label_names(alloc: Global, page: &Page, labels: &[LabelNo]) -> Result<Items<Name>, NoMemory>
     requires { All (λ label. label < length (labels_of page.now)) labels.now }
     ensures { IfOk result (λ names. names ≡ names_of page.now labels.now) }
 {

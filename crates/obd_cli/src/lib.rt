@@ -1,16 +1,18 @@
 //! The program's one call, from its words and the bytes that it reads to the text that it writes.
 //!
-//! `decide` reads a document, an open book, and writes a certificate. Every line of it is a function of the
-//! book, which `run` promises. The forms of the document and the certificate are this project's own.
+//! `decide` reads a document, an open book, and writes a certificate; `page` writes the joined page and the words
+//! of the strands. Every line of both is a function of the book, which `run` promises. The forms of the document and the certificate are this project's own.
 #![tactic(auto)]
 
 mod certificate;
 mod complex;
 mod identity;
 mod line;
+mod page;
 mod refused;
 mod status;
 mod top;
+mod words;
 
 pub use certificate::{Certificate, Finger, Pivot, Verdict};
 pub use curve_paths::Cross;

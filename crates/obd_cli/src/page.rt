@@ -1,2 +1,66 @@
 // The answer of the command `page`.
-ghost use Rattle.std.specs.Prelude.{◌≡◌, ◌++◌, OnOk};
+ghost use Rattle.std.specs.Prelude.{◌≡◌, true, length, IfOk};
+ghost use Rattle.page_surface.specs.Joining.{joined as joined_page};
+ghost use Rattle.obd_doc.specs.Document.{IsBook};
+ghost use Rattle.obd_cli.specs.Run.{has_text, page_answer, refused_with};
+ghost use Rattle.obd_cli.specs.Words.{book_words as words_of_book, long_line, words_text};
+
+use crate::identity::{basis, label_names};
+use crate::line::{put_line, put_numbered, put_rows};
+use crate::refused::put_refused;
+use crate::status::{Answer, Status};
+use crate::words::{TooLong, Wordless, book_words};
+use arc_basis::{Basis, join};
+use obd_base::{Items, NoMemory, SideNo, Text};
+use obd_doc::Book;
+use std::alloc::Global;
+
+// The lines of the seams, the basis and the words.
+fn words_text(
+    alloc: Global,
+    book: &Book,
+    joined: &Basis,
+    words: &[Items<SideNo>],
+) -> Result<Text, NoMemory>
+    requires { joined.now ≡ joined_page book.now.page }
+    ensures { IfOk result (λ text. text ≡ words_text book.now words.now) }
+{
+    let seams = label_names(alloc, &book.page, joined.seams())?;
+    let arcs = basis(alloc, joined.polygon())?;
+    let mut text = Text::new(alloc);
+    put_numbered(&mut text, "seams", seams.len() as u64, seams.as_slice())?;
+    put_line(&mut text, "basis", arcs.as_slice())?;
+    put_rows(&mut text, "word", words)?;
+    Ok(text)
+}
+
+// The answer to words that are too long.
+fn too_long(alloc: Global, long: TooLong) -> Result<Answer, NoMemory>
+    ensures { IfOk result (λ answer. answer ≡ refused_with (long_line long)) }
+{
+    let mut text = Text::new(alloc);
+    put_refused(&mut text, 51, "TooLong", &[], &[long.twist, long.letters])?;
+    Ok(Answer {
+        status: Status::Refused,
+        text,
+    })
+}
+
+/// The answer of `page` to a book with one polygon and no slide: the seams, the basis and the words of the strands,
+/// or TooLong, which says after which entry of the twist word the words have more than 4,000 letters together.
+pub(crate) fn paged(alloc: Global, book: &Book) -> Result<Answer, NoMemory>
+    requires valid { IsBook book.now }
+    requires one { length book.now.page ≡ 1 }
+    ensures answered { IfOk result (λ answer. answer ≡ page_answer book.now (words_of_book book.now)) }
+    ensures settled { IfOk result (λ answer. has_text answer.status ≡ true) }
+{
+    let joined = join(alloc, &book.page)?;
+    match book_words(alloc, book, &joined) {
+        Ok(words) => Ok(Answer {
+            status: Status::Done,
+            text: words_text(alloc, book, &joined, words.as_slice())?,
+        }),
+        Err(Wordless::TooLong(long)) => too_long(alloc, long),
+        Err(Wordless::NoMemory) => Err(NoMemory),
+    }
+}

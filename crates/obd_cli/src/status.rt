@@ -30,6 +30,8 @@ pub enum Status {
 pub(crate) enum Command {
     /// Writes the certificate of the book that was read.
     Decide,
+    /// Writes the seams, the basis and the words of the strands of the book that was read.
+    Page,
 }
 
 /// A status with the text that goes with it.

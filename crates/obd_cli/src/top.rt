@@ -5,11 +5,12 @@ ghost use Rattle.obd_base.specs.Causes.{Rose};
 ghost use Rattle.obd_base.specs.Streams.{TookPrefix};
 ghost use Rattle.obd_doc.specs.Document.{IsBook};
 ghost use Rattle.obd_cli.specs.Refused.{doc_line, refused_line};
-ghost use Rattle.obd_cli.specs.Run.{AnswersAll, AnswersBook, AnswersBytes, AnswersLong, Certifies, CutShort, Decided, IsFault, Owes, Told, command_of, has_text, not_built, not_decided, refused_with, status_owed, too_long, usage};
+ghost use Rattle.obd_cli.specs.Run.{AnswersAll, AnswersBook, AnswersBytes, AnswersLong, Certifies, CutShort, Finished, IsFault, Owes, Told, command_of, has_text, not_built, not_decided, refused_with, status_owed, too_long, usage};
 ghost use Rattle.obd_cli.specs.declared.status.Command.{Command as Which};
 
 use crate::certificate::print;
 use crate::identity::certify;
+use crate::page::paged;
 use crate::refused::{put_doc_refusal, put_refused};
 use crate::status::{Answer, Command, Status};
 use obd_base::{NoMemory, ReadRefusal, Sink, Source, Text, WriteFault, read_all, write_all_of};
@@ -30,6 +31,9 @@ fn command_of(words: &[String]) -> Option<Command>
     }
     if words[0].as_str() == "decide" {
         return Some(Command::Decide);
+    }
+    if words[0].as_str() == "page" {
+        return Some(Command::Page);
     }
     None
 }
@@ -107,6 +111,7 @@ fn not_built(command: Command, book: &Book) -> Option<&'static str>
     }
     match command {
         Command::Decide => not_decided(book),
+        Command::Page => None,
     }
 }
 
@@ -134,6 +139,7 @@ fn answer_to_book(alloc: Global, command: Command, book: &Book) -> Result<Answer
         Some(what) => not_taken(alloc, what),
         None => match command {
             Command::Decide => decided(alloc, book),
+            Command::Page => paged(alloc, book),
         },
     }
 }
@@ -232,8 +238,9 @@ fn run_words<S: Source, K: Sink>(
     }
 }
 
-/// One run of the program. The words after the program's own name decide the command, which for now is the
-/// single word `decide`: it reads a document from the source and writes the certificate of its open book.
+/// One run of the program. The words after the program's own name decide the command, which for now is a single
+/// word. Both commands read a document from the source: `decide` writes the certificate of its open book, and
+/// `page` the seams, the basis and the words of its strands.
 ///
 /// The whole text is built before the first write. Where a device fails, its fault takes the place of the
 /// status whose text was owed; `NoMemory` may come at any step that takes memory, before the first write.
@@ -244,8 +251,10 @@ pub fn run<S: Source, K: Sink>(
     source: &mut S,
     sink: &mut K,
 ) -> Status
-    // The headline: the certificate that was written belongs to the book of the bytes that were read.
-    ensures done { result ≡ Status.Done → Decided (S.left source.old) (S.left source.new) (K.written sink.old) (K.written sink.new) }
+    // The headline: with `decide`, the certificate that was written belongs to the book of the bytes that were read;
+    // with `page`, the words that were written are those of that book's strands.
+    ensures done { result ≡ Status.Done → Finished (command_of (map string_bytes words.now))
+        (S.left source.old) (S.left source.new) (K.written sink.old) (K.written sink.new) }
 
     // Each status with a text: the text that is owed was written, whole.
     ensures told { has_text result ≡ true → Told (command_of (map string_bytes words.now))

@@ -18,7 +18,7 @@ use twist_words::{TwistRefusal, by_power, identity_words};
 /// letters they have together then.
 #[derive(Clone, Copy, Debug, PartialEq, Eq)]
 pub(crate) struct TooLong {
-    pub(crate) twist: u32,
+    pub(crate) twist: u64,
     pub(crate) letters: u64,
 }
 
@@ -78,7 +78,7 @@ fn after_entry(
     alloc: Global,
     book: &Book,
     basis: &Basis,
-    number: u32,
+    number: u64,
     twist: Twist,
     words: Items<Items<SideNo>>,
 ) -> Result<Items<Items<SideNo>>, Wordless>
@@ -115,7 +115,7 @@ pub(crate) fn book_words(
 {
     let mut words = identity_words(alloc, basis.polygon())?;
     for (number, twist) in book.twists.as_slice().iter().enumerate() {
-        words = after_entry(alloc, book, basis, number as u32, *twist, words)?;
+        words = after_entry(alloc, book, basis, number as u64, *twist, words)?;
     }
     Ok(words)
 }
