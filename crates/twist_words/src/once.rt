@@ -1,5 +1,5 @@
 // One single twist on the words of all strands.
-ghost use Rattle.std.specs.Prelude.{◌≡◌, ◌≢◌, ◌<◌, ◌≤◌, ◌++◌, ◌∷◌, ◌^◌, ℕ, [], length, All, Ok, Err, IfOk, IfErr, OnOk};
+ghost use Rattle.std.specs.Prelude.{◌≡◌, ◌<◌, ◌≤◌, ◌++◌, ◌∷◌, ◌^◌, ℕ, [], length, All, Ok, Err, IfOk, IfErr, OnOk};
 ghost use Rattle.page_surface.specs.Polygon.{IsPolygon, arc_count, first_side, second_side, sides};
 ghost use Rattle.page_surface.specs.Words.{reduced};
 ghost use Rattle.curve_paths.specs.Curves.{IsCurve, image};
