@@ -6,3 +6,4 @@ mod Joined
 mod Made
 mod Named
 mod Numbered
+mod WordsSoFar

@@ -1,40 +1,70 @@
 -- The words after the first entries of a twist word.
-use Rattle.std.proofs.Common.{◌≡◌, ℕ, suc, ◌+◌, ◌<◌, List, [], ◌∷◌, length, drop, get_or, map, refl, sym, ◌∙◌, ap, arith}
-use Rattle.std.specs.Prelude.{Result, Ok, Err, Option, Some, None, ◌↔◌, IfSome, slice_index_or}
+use Rattle.std.proofs.Common.{◌≡◌, ℕ, zero, suc, ◌+◌, ◌<◌, List, [], ◌∷◌, length, drop, get_or, map, refl, sym, ◌∙◌, ap, arith}
+use Rattle.std.proofs.Math.ListN.{drop_of_length-le}
+use Rattle.std.proofs.Math.Seq.{drop-cons}
+use Rattle.std.specs.Prelude.{Result, Ok, Err, IfErr, slice_index_or}
+use Rattle.std.specs.Result.{IsErrAnd}
 use Rattle.obd_base.specs.declared.points.Exit.{Exit}
+use Rattle.page_surface.specs.Joining.{Joined, joined}
 use Rattle.page_surface.specs.Polygon.{Polygon}
-use Rattle.twist_words.specs.Powers.{by_power, exits_of}
+use Rattle.arc_basis.specs.Basis.{joined_polygon}
+use Rattle.curve_paths.specs.Curves.{identity_words}
+use Rattle.twist_words.specs.Powers.{by_power}
+use Rattle.obd_doc.specs.declared.book.Book.{Book}
 use Rattle.obd_doc.specs.declared.book.Twist.{Twist}
-use Rattle.obd_cli.specs.Words.{by_entries, following, numbered}
+use Rattle.obd_cli.specs.Words.{book_words, by_entries, curve_exits, following, numbered}
 use Rattle.obd_cli.specs.declared.words.TooLong.{TooLong}
+use Rattle.obd_cli.specs.declared.words.Wordless.{Wordless}
+use Rattle.obd_cli.specs.declared.words.Wordless.TheVariants.{TooLong as Long}
 
 -- a list from one of its items on
 dropped_next : {A : Type 0} (xs : List A) (i : ℕ) (x : A) → i < length xs → drop i xs ≡ get_or xs i x ∷ drop (i + 1) xs
-dropped_next [] i x within = absurd (omega (arith, within))
-dropped_next (y ∷ ys) 0 x within = refl
-dropped_next (y ∷ ys) (suc i) x within = dropped_next ys i x (omega (arith, within))
+dropped_next xs i x within = let moved : suc i ≡ i + 1 = omega arith in drop-cons xs i x within ∙ ap (λ n. get_or xs i x ∷ drop n xs) moved
 
 module _ (p : Polygon) (curves : List (List Exit)) (twists : List Twist) where
   -- what is left starts with the next entry
-  entries_next : (i : ℕ) (twist : Twist) (words : List (List ℕ)) → i < length twists → twist ≡ get_or twists i twist
+  entries_next : (i : ℕ) (twist other : Twist) (words : List (List ℕ)) → i < length twists → twist ≡ get_or twists i other
       → by_entries p curves i (drop i twists) words ≡ following (by_entries p curves (i + 1) (drop (i + 1) twists)) (numbered i (by_power p (slice_index_or curves twist.curve []) twist.power words))
-  entries_next i twist words within is =
-      let next : drop i twists ≡ twist ∷ drop (i + 1) twists = dropped_next twists i twist within ∙ ap (λ t. t ∷ drop (i + 1) twists) (sym is) in
+  entries_next i twist other words within is =
+      let next : drop i twists ≡ twist ∷ drop (i + 1) twists = dropped_next twists i other within ∙ ap (λ t. t ∷ drop (i + 1) twists) (sym is) in
       let moved : suc i ≡ i + 1 = omega arith in
       ap (λ ts. by_entries p curves i ts words) next ∙ ap (λ n. following (by_entries p curves n (drop (i + 1) twists)) (numbered i (by_power p (slice_index_or curves twist.curve []) twist.power words))) moved
 
   -- words after one entry more
-  pub entries_more : (i : ℕ) (twist : Twist) (first words now : List (List ℕ)) → i < length twists → twist ≡ get_or twists i twist
+  pub entries_more : (i : ℕ) (twist other : Twist) (first words now : List (List ℕ)) → i < length twists → twist ≡ get_or twists i other
       → by_entries p curves 0 twists first ≡ by_entries p curves i (drop i twists) words → numbered i (by_power p (slice_index_or curves twist.curve []) twist.power words) ≡ Ok now
       → by_entries p curves 0 twists first ≡ by_entries p curves (i + 1) (drop (i + 1) twists) now
-  entries_more i twist first words now within is before turned = before ∙ (entries_next i twist words within is ∙ ap (following (by_entries p curves (i + 1) (drop (i + 1) twists))) turned)
+  entries_more i twist other first words now within is before turned = before ∙ (entries_next i twist other words within is ∙ ap (following (by_entries p curves (i + 1) (drop (i + 1) twists))) turned)
 
   -- an entry in which the words become too long
-  pub entries_long : (i : ℕ) (twist : Twist) (first words : List (List ℕ)) (long : TooLong) → i < length twists → twist ≡ get_or twists i twist
+  pub entries_long : (i : ℕ) (twist other : Twist) (first words : List (List ℕ)) (long : TooLong) → i < length twists → twist ≡ get_or twists i other
       → by_entries p curves 0 twists first ≡ by_entries p curves i (drop i twists) words → numbered i (by_power p (slice_index_or curves twist.curve []) twist.power words) ≡ Err long
       → by_entries p curves 0 twists first ≡ Err long
-  entries_long i twist first words long within is before turned = before ∙ (entries_next i twist words within is ∙ ap (following (by_entries p curves (i + 1) (drop (i + 1) twists))) turned)
+  entries_long i twist other first words long within is before turned = before ∙ (entries_next i twist other words within is ∙ ap (following (by_entries p curves (i + 1) (drop (i + 1) twists))) turned)
 
   -- no entry is left
   pub entries_all : (i : ℕ) (first now : List (List ℕ)) → i ≡ length twists → by_entries p curves 0 twists first ≡ by_entries p curves i (drop i twists) now → by_entries p curves 0 twists first ≡ Ok now
-  entries_all i first now end before = before ∙ ap (λ ts. by_entries p curves i ts now) (dropped_all twists i end)
+  entries_all i first now end before = before ∙ ap (λ ts. by_entries p curves i ts now) (drop_of_length-le twists (omega (arith, end)))
+
+-- the words of a book, when no entry is left
+pub book_all : (book : Book) (j : Joined) (i : ℕ) (now : List (List ℕ)) → j ≡ joined book.page → i ≡ length book.twists
+    → by_entries (joined_polygon j) (curve_exits book) 0 book.twists (identity_words (joined_polygon j)) ≡ by_entries (joined_polygon j) (curve_exits book) i (drop i book.twists) now
+    → book_words book ≡ Ok now
+unfolding book_words
+book_all book j i now is end before =
+    sym (ap (λ (j : Joined). by_entries (joined_polygon j) (curve_exits book) 0 book.twists (identity_words (joined_polygon j))) is) ∙ entries_all (joined_polygon j) (curve_exits book) book.twists i (identity_words (joined_polygon j)) now end before
+
+-- and when they become too long in an entry
+pub book_long : (book : Book) (j : Joined) (i : ℕ) (twist other : Twist) (words : List (List ℕ)) (long : TooLong) → j ≡ joined book.page → i < length book.twists → twist ≡ get_or book.twists i other
+    → by_entries (joined_polygon j) (curve_exits book) 0 book.twists (identity_words (joined_polygon j)) ≡ by_entries (joined_polygon j) (curve_exits book) i (drop i book.twists) words
+    → numbered i (by_power (joined_polygon j) (slice_index_or (curve_exits book) twist.curve []) twist.power words) ≡ Err long → book_words book ≡ Err long
+unfolding book_words
+book_long book j i twist other words long is within item before turned =
+    sym (ap (λ (j : Joined). by_entries (joined_polygon j) (curve_exits book) 0 book.twists (identity_words (joined_polygon j))) is)
+    ∙ entries_long (joined_polygon j) (curve_exits book) book.twists i twist other (identity_words (joined_polygon j)) words long within item before turned
+
+-- what an error says that is handed on
+pub handed_on : {T : Type 0} (Q : TooLong → Type 0) (error : Wordless) (result : Result T Wordless) → IsErrAnd result (λ e. e ≡ error)
+    → ((long : TooLong) → error ≡ Long long → Q long) → IfErr result (λ e. (long : TooLong) → e ≡ Long long → Q long)
+handed_on Q error (Ok words) is holds = absurd is
+handed_on Q error (Err e) is holds = λ long given. holds long (sym is ∙ given)

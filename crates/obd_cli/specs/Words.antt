@@ -3,6 +3,7 @@ use Rattle.std.specs.Prelude.{ℕ, suc, List, [], ◌∷◌, ◌++◌, codes, de
 use Rattle.obd_base.specs.Lists.{below}
 use Rattle.obd_base.specs.declared.points.Exit.{Exit}
 use Rattle.page_surface.specs.Joining.{page_polygon}
+use Rattle.page_surface.specs.Labels.{Label}
 use Rattle.page_surface.specs.Polygon.{Polygon, arc, sides}
 use Rattle.curve_paths.specs.Curves.{identity_words}
 use Rattle.curve_paths.specs.Through.{exits_through}
@@ -39,11 +40,15 @@ unfoldable pub book_words : Book → Result (List (List ℕ)) TooLong
 book_words book = by_entries (page_polygon book.page) (curve_exits book) 0 book.twists (identity_words (page_polygon book.page))
 
 -- the lines of the seams and of the basis, and a line with the word of each strand
-abbrev pub words_text : Book → List (List ℕ) → List ℕ
-words_text book words =
-    line (codes "seams") (decimal (length (seam_names book.page)) ∷ seam_names book.page)
-    ++ line (codes "basis") (map decimal (map (arc (page_polygon book.page)) (below (sides (page_polygon book.page)))))
+abbrev pub lines_of : List Label → List ℕ → List (List ℕ) → List ℕ
+lines_of seams arcs words =
+    line (codes "seams") (decimal (length seams) ∷ seams)
+    ++ line (codes "basis") (map decimal arcs)
     ++ row_lines (codes "word") decimal words
+
+-- the text of `page`
+abbrev pub words_text : Book → List (List ℕ) → List ℕ
+words_text book words = lines_of (seam_names book.page) (map (arc (page_polygon book.page)) (below (sides (page_polygon book.page)))) words
 
 -- the line of words that are too long
 abbrev pub long_line : TooLong → List ℕ

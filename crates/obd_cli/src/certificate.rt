@@ -5,7 +5,8 @@ ghost use Rattle.obd_cli.specs.Line.{line, lines, spaced};
 ghost use Rattle.obd_cli.specs.Text.{certificate_text, cross_text, drawing_text, finger_words, monodromy_text, outcome_text, page_text, path_words, pivot_words, polygon_words, slide_words, twist_words, verdict_line};
 
 use crate::line::{
-    Entry, Word, put_count, put_line, put_list, put_number, put_numbered, put_rows, put_signed, put_words,
+    Entry, Word, put_count, put_line, put_list, put_number, put_numbered, put_rows, put_signed,
+    put_words,
 };
 use curve_paths::Cross;
 use obd_base::{ArcNo, Exit, GenNo, Items, Name, NoMemory, SideNo, StrandNo, Text};

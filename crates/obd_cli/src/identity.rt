@@ -76,7 +76,11 @@ fn contact_points(alloc: Global, diagram: &Diagram, count: u32) -> Result<Items<
 }
 
 // The names of some labels of the page.
-pub(crate) fn label_names(alloc: Global, page: &Page, labels: &[LabelNo]) -> Result<Items<Name>, NoMemory>
+pub(crate) fn label_names(
+    alloc: Global,
+    page: &Page,
+    labels: &[LabelNo],
+) -> Result<Items<Name>, NoMemory>
     requires { All (λ label. label < length (labels_of page.now)) labels.now }
     ensures { IfOk result (λ names. names ≡ names_of page.now labels.now) }
 {

@@ -164,7 +164,11 @@ pub(crate) fn put_numbered<T: Word>(
 
 // Appends a line of a kind for each row, with its number and its words.
 #[tactic(auto, unfolding(crate::specs::Line::lines))]
-pub(crate) fn put_rows<T: Word>(text: &mut Text, kind: &str, rows: &[Items<T>]) -> Result<(), NoMemory>
+pub(crate) fn put_rows<T: Word>(
+    text: &mut Text,
+    kind: &str,
+    rows: &[Items<T>],
+) -> Result<(), NoMemory>
     ensures { OnOk result (text.new ≡ text.old ++ row_lines kind.now T.word rows.now) }
 {
     for (number, words) in rows.iter().enumerate() {

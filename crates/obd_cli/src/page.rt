@@ -1,9 +1,9 @@
 // The answer of the command `page`.
-ghost use Rattle.std.specs.Prelude.{◌≡◌, true, length, IfOk};
+ghost use Rattle.std.specs.Prelude.{◌≡◌, ◌++◌, true, length, IfOk, OnOk};
 ghost use Rattle.page_surface.specs.Joining.{joined as joined_page};
 ghost use Rattle.obd_doc.specs.Document.{IsBook};
 ghost use Rattle.obd_cli.specs.Run.{has_text, page_answer, refused_with};
-ghost use Rattle.obd_cli.specs.Words.{book_words as words_of_book, long_line, words_text};
+ghost use Rattle.obd_cli.specs.Words.{book_words as words_of_book, lines_of, long_line, words_text};
 
 use crate::identity::{basis, label_names};
 use crate::line::{put_line, put_numbered, put_rows};
@@ -11,11 +11,25 @@ use crate::refused::put_refused;
 use crate::status::{Answer, Status};
 use crate::words::{TooLong, Wordless, book_words};
 use arc_basis::{Basis, join};
-use obd_base::{Items, NoMemory, SideNo, Text};
+use obd_base::{ArcNo, Items, Name, NoMemory, SideNo, Text};
 use obd_doc::Book;
 use std::alloc::Global;
 
-// The lines of the seams, the basis and the words.
+// Appends the lines of the seams, the basis and the words.
+fn put_page(
+    text: &mut Text,
+    seams: &[Name],
+    arcs: &[ArcNo],
+    words: &[Items<SideNo>],
+) -> Result<(), NoMemory>
+    ensures { OnOk result (text.new ≡ text.old ++ lines_of seams.now arcs.now words.now) }
+{
+    put_numbered(text, "seams", seams.len() as u64, seams)?;
+    put_line(text, "basis", arcs)?;
+    put_rows(text, "word", words)
+}
+
+// The text of `page`.
 fn words_text(
     alloc: Global,
     book: &Book,
@@ -28,9 +42,7 @@ fn words_text(
     let seams = label_names(alloc, &book.page, joined.seams())?;
     let arcs = basis(alloc, joined.polygon())?;
     let mut text = Text::new(alloc);
-    put_numbered(&mut text, "seams", seams.len() as u64, seams.as_slice())?;
-    put_line(&mut text, "basis", arcs.as_slice())?;
-    put_rows(&mut text, "word", words)?;
+    put_page(&mut text, seams.as_slice(), arcs.as_slice(), words)?;
     Ok(text)
 }
 

@@ -79,18 +79,18 @@ fn after_entry(
     book: &Book,
     basis: &Basis,
     number: u64,
-    twist: Twist,
+    twist: &Twist,
     words: Items<Items<SideNo>>,
 ) -> Result<Items<Items<SideNo>>, Wordless>
     requires book { IsBook book.now }
     requires basis { basis.now ≡ joined book.now.page }
     requires words { AreWords (joined_polygon basis.now) words }
-    ensures turned { IfOk result (λ now. numbered number (words_by_power (joined_polygon basis.now) (slice_index_or (curve_exits book.now) twist.curve []) twist.power words) ≡ Ok now) }
+    ensures turned { IfOk result (λ now. numbered number (words_by_power (joined_polygon basis.now) (slice_index_or (curve_exits book.now) twist.now.curve []) twist.now.power words) ≡ Ok now) }
     ensures words { IfOk result (λ now. AreWords (joined_polygon basis.now) now) }
     ensures long { IfErr result (λ refusal. (long : TooLong) → refusal ≡ Wordless.TooLong long
-        → numbered number (words_by_power (joined_polygon basis.now) (slice_index_or (curve_exits book.now) twist.curve []) twist.power words) ≡ Err long) }
+        → numbered number (words_by_power (joined_polygon basis.now) (slice_index_or (curve_exits book.now) twist.now.curve []) twist.now.power words) ≡ Err long) }
 {
-    match after_twist(alloc, book, basis, twist, words) {
+    match after_twist(alloc, book, basis, *twist, words) {
         Ok(words) => Ok(words),
         Err(TwistRefusal::TooLong { letters }) => Err(Wordless::TooLong(TooLong {
             twist: number,
@@ -114,8 +114,9 @@ pub(crate) fn book_words(
     ensures long { IfErr result (λ refusal. (long : TooLong) → refusal ≡ Wordless.TooLong long → words_of_book book.now ≡ Err long) }
 {
     let mut words = identity_words(alloc, basis.polygon())?;
-    for (number, twist) in book.twists.as_slice().iter().enumerate() {
-        words = after_entry(alloc, book, basis, number as u64, *twist, words)?;
+    let twists = book.twists.as_slice();
+    for (number, twist) in twists.iter().enumerate() {
+        words = after_entry(alloc, book, basis, number as u64, twist, words)?;
     }
     Ok(words)
 }

@@ -15,3 +15,5 @@ mod making;
 mod pages;
 #[cfg(test)]
 mod runs;
+#[cfg(test)]
+mod words;
