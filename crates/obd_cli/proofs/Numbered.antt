@@ -1,5 +1,5 @@
 -- Rows with their numbers, and the lines of some rows.
-use Rattle.std.proofs.Common.{◌≡◌, ℕ, ◌+◌, suc, List, [], ◌∷◌, ◌++◌, map, length, decimal, refl, sym, ◌∙◌, ap, arith, add-zero, zero-add, ◌<◌, take, get_or, length-take-le, append_assoc}
+use Rattle.std.proofs.Common.{◌≡◌, ℕ, ◌+◌, List, [], ◌∷◌, ◌++◌, map, length, decimal, refl, sym, ◌∙◌, ap, arith, zero-add, ◌<◌, take, get_or, length-take-le, append_assoc}
 use Rattle.std.specs.List.{enumerate_from, flat_map}
 use Rattle.std.proofs.lemmas.List.{append-nil, take_more}
 use Rattle.std.proofs.lemmas.List.Concat.{flat_map-append}

@@ -3,7 +3,7 @@ use Rattle.std.specs.Prelude.{ℕ, List, [], ◌∷◌, ◌++◌, codes, decimal
 use Rattle.std.specs.Fmt.{signed_decimal}
 use Rattle.curve_paths.specs.declared.path.Cross.{Cross}
 use Rattle.obd_base.specs.declared.points.Exit.{Exit}
-use Rattle.obd_cli.specs.Line.{exit_text, line, lines, listed, row_lines}
+use Rattle.obd_cli.specs.Line.{exit_text, line, listed, row_lines}
 use Rattle.obd_cli.specs.declared.certificate.Certificate.{Certificate}
 use Rattle.obd_cli.specs.declared.certificate.Finger.{Finger}
 use Rattle.obd_doc.specs.declared.entries.NamedPath.{NamedPath}

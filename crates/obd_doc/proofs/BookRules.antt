@@ -1,11 +1,10 @@
 -- The rules of a book, stage by stage.
-use Rattle.std.proofs.Common.{◌≡◌, ℕ, not, List, [], ◌∷◌, ◌++◌, map, position, Option, None, Some, option_map, refl, sym, ◌∙◌, ap, subst}
+use Rattle.std.proofs.Common.{◌≡◌, ℕ, not, List, [], ◌∷◌, ◌++◌, map, position, Option, None, Some, option_map, refl, ◌∙◌, ap, subst}
 use Rattle.std.specs.List.{list_any}
 use Rattle.std.specs.Str.{bytes_eq}
 use Rattle.page_surface.specs.Labels.{Label}
 use Rattle.page_surface.specs.Page.{refusal_of as page_refusal}
 use Rattle.obd_doc.specs.Document.{all_curve_rules, book_of, book_rules, curve_on, first_of, names_of, twist_about, twist_rule}
-use Rattle.obd_doc.specs.declared.book.Book.{Book}
 use Rattle.obd_doc.specs.declared.book.NamedCurve.{NamedCurve}
 use Rattle.obd_doc.specs.declared.book.Twist.{Twist}
 use Rattle.obd_doc.specs.declared.entries.NamedPath.{NamedPath}

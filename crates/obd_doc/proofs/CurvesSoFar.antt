@@ -1,5 +1,5 @@
 -- Curves that are tried one after another.
-use Rattle.std.proofs.Common.{◌≡◌, ℕ, zero, suc, ◌+◌, ◌<◌, ◌≤◌, List, [], ◌∷◌, ◌++◌, map, take, drop, length, get_or, Option, None, Some, String, Global, string_bytes, refl, sym, ◌∙◌, ap, subst, arith}
+use Rattle.std.proofs.Common.{◌≡◌, ℕ, ◌+◌, ◌<◌, ◌≤◌, List, [], ◌∷◌, ◌++◌, map, take, drop, length, get_or, None, Some, String, Global, string_bytes, refl, sym, ◌∙◌, ap}
 use Rattle.std.proofs.lemmas.List.{drop_all, drop_more, map-append, take_more, take_all}
 use Rattle.page_surface.specs.Labels.{Label}
 use Rattle.obd_doc.specs.Document.{all_curve_rules, curve_on, curve_rules, first_of, names_of}

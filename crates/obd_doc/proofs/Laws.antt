@@ -1,5 +1,5 @@
 -- What is known of a book that was read.
-use Rattle.std.proofs.Common.{◌≡◌, ℕ, ◌<◌, eqb, cond, false, List, [], ◌∷◌, ◌++◌, length, map, get_or, Option, None, Some, option_map, refl, sym, ◌∙◌, ap, subst, arith, All}
+use Rattle.std.proofs.Common.{◌≡◌, ℕ, ◌<◌, eqb, cond, false, List, [], ◌∷◌, ◌++◌, length, map, Option, None, Some, option_map, refl, sym, subst, arith, All}
 use Rattle.std.specs.Prelude.{is_none, nat_lt}
 use Rattle.std.specs.Option.{option_map_or}
 use Rattle.std.proofs.lemmas.Bool.{eqb-false, ltb-false}

@@ -1,6 +1,5 @@
 -- The crossings of a document leave by occurrence 0 or 1.
-use Rattle.std.proofs.Common.{◌≡◌, ℕ, ◌<◌, ◌≤◌, Bool, true, false, not, leb, ◌&&◌, List, [], ◌∷◌, map, length, get_or, Option, None, Some, refl, sym, ◌∙◌, ap, subst, arith, All}
-use Rattle.std.specs.List.{list_all}
+use Rattle.std.proofs.Common.{◌≡◌, ℕ, ◌<◌, ◌≤◌, Bool, true, false, not, leb, ◌&&◌, List, [], ◌∷◌, length, get_or, Option, None, Some, refl, sym, ap, subst, arith, All}
 use Rattle.std.specs.Option.{option_map_or}
 use Rattle.std.proofs.lemmas.Bool.{and_parts, false≢true, leb-true}
 use Rattle.std.proofs.lemmas.List.{get_or-map, length-map}
@@ -10,7 +9,7 @@ use Rattle.curve_paths.specs.PathTables.{HaveOccurrences}
 use Rattle.obd_doc.specs.Document.{curves, first_of, said_or, wanted, when}
 use Rattle.obd_doc.specs.Kinds.{cross, named_path}
 use Rattle.obd_doc.specs.Reading.{array_of}
-use Rattle.obd_doc.specs.Values.{element, elements, is_whole_in, whole, whole_or_zero}
+use Rattle.obd_doc.specs.Values.{element, elements, is_whole_in, whole}
 use Rattle.obd_doc.specs.declared.entries.NamedPath.{NamedPath}
 use Rattle.obd_doc.specs.declared.refusal.DocRefusal.{DocRefusal}
 use Rattle.obd_doc.specs.declared.refusal.DocRefusal.TheVariants.{Field, Number}

@@ -1,5 +1,5 @@
 -- Twists that are tried one after another.
-use Rattle.std.proofs.Common.{◌≡◌, ℕ, zero, suc, ◌+◌, ◌<◌, ◌≤◌, le_refl, inl, inr, Bool, true, false, not, List, [], ◌∷◌, ◌++◌, map, take, length, get_or, Option, None, Some, position, refl, sym, ◌∙◌, ap, subst, arith}
+use Rattle.std.proofs.Common.{◌≡◌, ℕ, zero, suc, ◌+◌, ◌<◌, ◌≤◌, le_refl, inl, inr, Bool, true, false, not, List, [], ◌∷◌, ◌++◌, map, take, length, get_or, None, Some, position, refl, sym, ◌∙◌, ap, arith}
 use Rattle.std.specs.List.{list_any, position_or_len}
 use Rattle.std.specs.Str.{bytes_eq}
 use Rattle.std.proofs.lemmas.Bool.{cases_Bool, false≢true, le-ltb, lt-ltb, or_parts}

@@ -1,9 +1,8 @@
 -- The kinds of values in a document.
-use Rattle.std.specs.Prelude.{ℕ, ℤ, pos, negsuc, ◌^◌, Bool, true, false, ◌&&◌, ◌||◌, not, nat_eq, nat_le, List, codes, length, is_some, option_map}
+use Rattle.std.specs.Prelude.{ℕ, ℤ, pos, negsuc, Bool, true, false, ◌&&◌, ◌||◌, nat_le, List, codes, is_some}
 use Rattle.std.specs.List.{list_all}
 use Rattle.std.specs.Option.{option_map_or}
 use Rattle.std.specs.Str.{bytes_eq}
-use Rattle.serde_json.specs.Data.{Data}
 use Rattle.serde_json.specs.Find.{as_object, get}
 use Rattle.obd_doc.specs.Reading.{Kind, array_of}
 use Rattle.obd_doc.specs.Values.{element, field_names, integer, is_array_of, is_name_text, is_number, is_whole_in, text_of, whole_or_zero}

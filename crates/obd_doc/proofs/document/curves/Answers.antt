@@ -1,6 +1,6 @@
 use Rattle.std.proofs.Common.{[], map}
 use Rattle.obd_doc.specs.Document.{all_curve_rules, curve_on}
-use Rattle.obd_doc.proofs.CurvesSoFar.{all_made, curve_made, curve_refused, none_so_far}
+use Rattle.obd_doc.proofs.CurvesSoFar.{curve_made, curve_refused}
 use Rattle.obd_doc.proofs.Rules.{given_on}
 use Rattle.obd_doc.proofs.document.curves.Goals as goal
 

@@ -1,4 +1,3 @@
-use Rattle.std.proofs.Common.{take}
 use Rattle.obd_doc.proofs.CurvesSoFar.{AreCurvesSoFar}
 use Rattle.obd_doc.proofs.document.curves.Given as goal
 

@@ -1,4 +1,4 @@
-use Rattle.std.proofs.Common.{◌≡◌, ◌∙◌, ap, sym, map, not, string_bytes, string_eq}
+use Rattle.std.proofs.Common.{◌∙◌, ap, sym, map, not, string_bytes}
 use Rattle.std.specs.List.{list_any}
 use Rattle.std.specs.Str.{bytes_eq}
 use Rattle.page_surface.specs.Labels.{with_label}

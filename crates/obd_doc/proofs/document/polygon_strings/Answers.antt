@@ -1,4 +1,4 @@
-use Rattle.std.proofs.Common.{ap, arith, length, take}
+use Rattle.std.proofs.Common.{ap, arith, length}
 use Rattle.std.proofs.lemmas.List.{take_all}
 use Rattle.page_surface.specs.Labels.{all_sides}
 use Rattle.obd_doc.proofs.document.polygon_strings.Goals as goal

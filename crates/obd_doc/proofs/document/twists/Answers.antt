@@ -1,4 +1,4 @@
-use Rattle.std.proofs.Common.{◌≡◌, ◌∙◌, ap, map, position, string_bytes, sym, refl, [], ◌∷◌, None, Option, Some, option_map}
+use Rattle.std.proofs.Common.{◌≡◌, ◌∙◌, ap, map, position, string_bytes, sym, refl, [], ◌∷◌, None, Some, option_map}
 use Rattle.std.specs.Str.{bytes_eq}
 use Rattle.obd_doc.specs.Document.{first_of}
 use Rattle.obd_doc.specs.declared.refusal.DocRefusal.TheVariants.{UnknownCurve}

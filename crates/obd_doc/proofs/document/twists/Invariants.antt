@@ -1,6 +1,4 @@
-use Rattle.std.proofs.Common.{◌≡◌, None, map, not, position, string_bytes, take}
-use Rattle.std.specs.List.{list_any}
-use Rattle.std.specs.Str.{bytes_eq}
+use Rattle.std.proofs.Common.{map, string_bytes, take}
 use Rattle.obd_doc.proofs.TwistsSoFar.{AreTwistsSoFar}
 use Rattle.obd_doc.proofs.document.twists.Given as goal
 

@@ -1,8 +1,8 @@
-use Rattle.std.proofs.Common.{◌∙◌, ◌≡◌, ap, cond, refl, rules, tests, string_bytes, is_some, true, Some}
+use Rattle.std.proofs.Common.{◌∙◌, ◌≡◌, ap, refl, rules, tests, string_bytes, is_some, true}
 use Rattle.std.proofs.lemmas.Iterator.Consumers.{YieldsList-from_rest}
 use Rattle.std.proofs.lemmas.Iterator.Search.{all_from_yields_List}
 use Rattle.serde_json.specs.Find.{as_object}
-use Rattle.serde_json.specs.View.{members_view, view}
+use Rattle.serde_json.specs.View.{view}
 use Rattle.obd_doc.specs.Document.{is_field}
 use Rattle.obd_doc.proofs.Rules.{by_names, shape_found}
 use Rattle.obd_doc.proofs.SoFar.{object_names}
