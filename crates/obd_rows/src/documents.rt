@@ -68,6 +68,10 @@ fn fields_are_tried_in_order_for_form_and_number(rt: HostRuntime) -> Result<(), 
             "refused 3 Field twists\n",
         ),
         (
+            "{\"open_book\":1,\"polygons\":[[\"A\",\"A\"]],\"curves\":[],\"twists\":[[\"c\",0],[\"c\"]]}",
+            "refused 3 Field twists\n",
+        ),
+        (
             "{\"open_book\":1,\"polygons\":[[\"A\",\"A\"]],\"curves\":[[\"c\",[[\"A\",0,0]]]],\"twists\":[[\"c\",1.0]]}",
             "refused 4 Number twists\n",
         ),
