@@ -5,6 +5,9 @@ mod Diagram
 mod Ends
 pub mod Examples
 pub mod Generators
+mod IdentityEmbedded
+mod IdentityTables
+mod KeptTables
 pub mod Laws
 pub mod Lists
 mod Mates
