@@ -1,5 +1,5 @@
 -- The identity drawing of a polygon is embedded, and has one point on each side.
-use Rattle.std.proofs.Common.{◌≡◌, ℕ, suc, ◌+◌, ◌<◌, ◌≤◌, Bool, true, false, eqb, ltb, not, ◌&&◌, ◌||◌, List, [], ◌∷◌, map, length, refl, sym, ◌∙◌, ap, subst, arith, zero-add, ◌⊎◌, inl, inr, ◌≢◌}
+use Rattle.std.proofs.Common.{◌≡◌, ℕ, suc, ◌+◌, ◌<◌, ◌≤◌, ◌^◌, Bool, true, false, eqb, ltb, not, ◌&&◌, ◌||◌, List, [], ◌∷◌, map, length, refl, sym, ◌∙◌, ap, subst, arith, zero-add, ◌⊎◌, inl, inr, ◌≢◌}
 use Rattle.std.specs.List.{sum_by, list_all}
 use Rattle.std.proofs.lemmas.Bool.{eq-eqb, ne_eqb, lt-ltb, and_from}
 use Rattle.std.proofs.lemmas.List.Sums.{sum_by-cons}
@@ -12,8 +12,7 @@ use Rattle.obd_base.proofs.lists.Sums.{sum_same, sum_add, sum_flat, sum_map, sum
 use Rattle.page_surface.specs.Polygon.{Polygon, IsPolygon, partner, sides, arc, arc_count, first_side, second_side}
 use Rattle.page_surface.specs.Drawing.{Drawing, exit, end_of, offset, points_on, all_exits, stands_at, strand_exits, strand_chords, cut_strand, Chord, chords, beyond, crosses, differ, no_two_cross, identity, IsPlaced, IsEmbedded}
 use Rattle.page_surface.proofs.EmbeddedTest.{all_from}
-use Rattle.drawing.specs.Kept.{IsKept}
-use Rattle.drawing.specs.Strands.{passes, strand_at, strand_table}
+use Rattle.drawing.specs.Layout.{drawn}
 use Rattle.drawing.proofs.ChordTree.{beyond-suc}
 use Rattle.drawing.proofs.Lists.{first_is, flat_mem, length_sum}
 use Rattle.drawing.proofs.Mates.{end_here, ends_from, ends_to}
@@ -164,55 +163,25 @@ module _ (p : Polygon) (ok : IsPolygon p) where
     uncrossed = short_uncrossed (chords d) short (at_most_one_end-placed d identity_placed);
   }
 
-  -- a strand passes through the one point of a side where the side is its arc's
-  passes_own : (k i : ℕ) → k < sides p → i < n → passes d k 0 i ≡ eqb (arc p k) i
-  passes_own k i l li =
-      let g = second_side p i in
-      let one = one_point g (ok.pairs.in_range _ (ok.first_in_range i li)) in
-      let back : partner p g ≡ first_side p i = ok.pairs.twice (first_side p i) in
-      rw (strand_is i li, one, back) (either (eqb g k) (eqb (first_side p i) k) (eqb (arc p k) i) (one_arc p ok k i l li))
-    where
-      either : (a b c : Bool) → bit a + bit b ≡ bit c → (((a && true) || (b && true)) || false) ≡ c
-      either true true true h = refl
-      either true true false h = absurd (omega arith)
-      either true false true h = refl
-      either true false false h = absurd (omega arith)
-      either false true true h = refl
-      either false true false h = absurd (omega arith)
-      either false false true h = absurd (omega arith)
-      either false false false h = refl
+-- a drawing with the strands of the identity drawing, on a copy of its polygon
+module _ (p copy : Polygon) (strands : List (List Exit)) (ok : IsPolygon p) (few : sides p ≤ 16) (same : copy ≡ p)
+    (is : strands ≡ map (λ i. exit (second_side p i) 0 ∷ []) (below (arc_count p))) where
+  -- is the identity drawing
+  pub copy_is : drawn copy strands ≡ identity p
+  copy_is = rw (same, is) refl
 
-  -- so that is the strand there
-  own_strand : (k : ℕ) → k < sides p → strand_at d k 0 ≡ arc p k
-  own_strand k l =
-      let la = (ok.ends k l).arc_in_range in
-      first_is (passes d k 0) n (arc p k) la (passes_own k (arc p k) l la ∙ eq-eqb (arc p k) (arc p k) refl)
-      (λ t lt. passes_own k t l (omega (arith, la, lt)) ∙ ne_eqb (arc p k) t (λ q. omega arith))
+  -- as many strands as arcs
+  pub copy_strands : length strands ≡ arc_count copy
+  copy_strands = ap (λ (d : Drawing). length d.strands) copy_is ∙ ((identity_embedded p ok).strand_count ∙ ap arc_count (sym same))
 
-  -- the table of strands has the arc of each side
-  table_is : strand_table d ≡ map (λ k. arc p k ∷ []) (below (sides p))
-  table_is = map_same (below (sides p)) (λ k m. m)
-    where
-      row : (k m : ℕ) → points_on d k ≡ m → m ≡ 1 → map (strand_at d k) (below (points_on d k)) ≡ strand_at d k 0 ∷ []
-      row k m e q = rw (e, q) refl
+  -- exits on sides
+  pub copy_on_sides : list_all (λ e. ltb e.side (sides copy)) (all_exits (drawn copy strands)) ≡ true
+  copy_on_sides = subst (λ (d : Drawing). list_all (λ e. ltb e.side (sides d.polygon)) (all_exits d) ≡ true) (sym copy_is) (identity_embedded p ok).on_sides
 
-      map_same : (ks : List ℕ) → ((k : ℕ) → Mem k ks → Mem k (below (sides p))) → map (λ k. map (strand_at d k) (below (points_on d k))) ks ≡ map (λ k. arc p k ∷ []) ks
-      map_same [] h = refl
-      map_same (k ∷ ks) h =
-          let l = mem_below (sides p) k (h k (inl refl)) in
-          let here : map (strand_at d k) (below (points_on d k)) ≡ arc p k ∷ [] = row k (points_on d k) refl (one_point k l) ∙ ap (λ (x : ℕ). x ∷ []) (own_strand k l) in
-          rw (here, map_same ks (λ x m. h x (inr m))) refl
+  -- few of them
+  pub copy_few : length (all_exits (drawn copy strands)) < 2 ^ 28
+  copy_few = let e = ap (λ (d : Drawing). length (all_exits d)) copy_is in omega (arith, e, exit_count p ok, few)
 
-  -- the identity drawing, as it is kept
-  pub identity_kept : (points : ℕ) (rows : List (List ℕ)) → sides p ≤ 16 → points ≡ n → rows ≡ map (λ k. arc p k ∷ []) (below (sides p)) → IsKept (identity p) points rows
-  identity_kept points rows few is_points is_rows = record {
-    embedded = identity_embedded;
-    few = omega (arith, exit_count, few);
-    points_are = is_points ∙ sym exit_count;
-    strands_are = is_rows ∙ sym table_is;
-  }
-
--- a drawing with a copy of its polygon is kept alike
-pub kept_as_copied : (p copy : Polygon) (strands : List (List Exit)) (points : ℕ) (rows : List (List ℕ)) → copy ≡ p → strands ≡ (identity p).strands
-    → IsKept (identity p) points rows → IsKept (record { polygon = copy; strands = strands }) points rows
-kept_as_copied p copy strands points rows e q kept = rw (e, q) kept
+  -- and embedded
+  pub copy_embedded : IsEmbedded (drawn copy strands)
+  copy_embedded = subst (λ (d : Drawing). IsEmbedded d) (sym copy_is) (identity_embedded p ok)

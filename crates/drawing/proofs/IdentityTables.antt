@@ -1,20 +1,20 @@
--- The tables of the identity drawing, as they are built.
-use Rattle.std.proofs.Common.{◌≡◌, ℕ, ◌+◌, List, [], ◌∷◌, ◌++◌, map, sym, zero-add}
+-- The strands of the identity drawing, as they are built.
+use Rattle.std.proofs.Common.{◌≡◌, ℕ, ◌+◌, List, [], ◌∷◌, ◌++◌, map, sym, ◌∙◌, ◌≤◌, ◌/◌, ap, arith, zero-add}
 use Rattle.std.proofs.lemmas.List.FromFn.{map-range_with_len_more}
 use Rattle.obd_base.specs.declared.points.Exit.{Exit}
 use Rattle.obd_base.specs.Lists.{below}
 use Rattle.page_surface.specs.Drawing.{exit}
-use Rattle.page_surface.specs.Polygon.{Polygon, second_side}
-
--- a list of lists with one member each, and one more
-pub singles_more : {A : Type 0} (f : ℕ → A) (n : ℕ) (x : A) (rows after : List (List A)) (start row : List A)
-    → rows ≡ map (λ i. f i ∷ []) (below n) → x ≡ f n → start ≡ [] → row ≡ start ++ (x ∷ []) → after ≡ rows ++ (row ∷ []) → after ≡ map (λ i. f i ∷ []) (below (n + 1))
-singles_more f n x rows after start row so_far is is_start is_row is_after =
-    rw (is_after, is_row, is_start, so_far, is) (sym (map-range_with_len_more (λ i. f i ∷ []) 0 n n (zero-add n)))
+use Rattle.page_surface.specs.Polygon.{Polygon, arc_count, second_side, sides}
 
 -- a strand that leaves by the second side of its arc
-pub strands_more : (p : Polygon) (arc side : ℕ) (strands after : List (List Exit)) (start exits : List Exit)
-    → strands ≡ map (λ i. exit (second_side p i) 0 ∷ []) (below arc) → side ≡ second_side p arc → start ≡ [] → exits ≡ start ++ (exit side 0 ∷ []) → after ≡ strands ++ (exits ∷ [])
+pub strands_more : (p : Polygon) (arc side : ℕ) (strands after : List (List Exit)) (exits : List Exit)
+    → strands ≡ map (λ i. exit (second_side p i) 0 ∷ []) (below arc) → exits ≡ exit side 0 ∷ [] → side ≡ second_side p arc → after ≡ strands ++ (exits ∷ [])
     → after ≡ map (λ i. exit (second_side p i) 0 ∷ []) (below (arc + 1))
-strands_more p arc side strands after start exits so_far is_second is_start is_exits is_after =
-    singles_more (λ i. exit (second_side p i) 0) arc (exit side 0) strands after start exits so_far (rw is_second) is_start is_exits is_after
+strands_more p arc side strands after exits so_far is second is_after =
+    rw (is_after, is, so_far, second) (sym (map-range_with_len_more (λ i. exit (second_side p i) 0 ∷ []) 0 arc arc (zero-add arc)))
+
+-- the strands of all arcs
+pub all_strands : (p : Polygon) (arc s : ℕ) (strands : List (List Exit)) → s ≡ sides p → s / 2 ≤ arc → arc ≤ s / 2
+    → strands ≡ map (λ i. exit (second_side p i) 0 ∷ []) (below arc) → strands ≡ map (λ i. exit (second_side p i) 0 ∷ []) (below (arc_count p))
+all_strands p arc s strands is least most so_far =
+    let e : arc ≡ arc_count p = omega (arith, is, least, most) in so_far ∙ ap (λ (n : ℕ). map (λ i. exit (second_side p i) 0 ∷ []) (below n)) e

@@ -4,10 +4,12 @@ mod CutAlways
 mod Diagram
 mod Ends
 pub mod Examples
+mod Filled
 pub mod Generators
 mod IdentityEmbedded
 mod IdentityTables
 mod KeptTables
+mod LayoutTables
 pub mod Laws
 pub mod Lists
 mod Mates
@@ -16,4 +18,5 @@ mod PieceCount
 mod Placed
 pub mod SamePiece
 mod Spots
+mod StrandTables
 pub mod Tests

@@ -1,6 +1,8 @@
+pub mod Counted
 pub mod Cut
 pub mod Fingers
 pub mod Kept
+pub mod Layout
 pub mod Pieces
 pub mod Points
 pub mod Round

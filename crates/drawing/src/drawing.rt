@@ -1,9 +1,12 @@
 // A drawing and what it tells of itself.
 ghost use Rattle.std.specs.Prelude.{◌≡◌, ◌<◌, ◌≤◌, ◌^◌, suc, map, length, slice_get, IfOk};
+ghost use Rattle.std.specs.List.{flat_map};
 ghost use Rattle.page_surface.specs.Drawing.{IsEmbedded, all_exits, points_on, strand_exits};
 ghost use Rattle.page_surface.specs.Polygon.{arc_count, sides};
 ghost use Rattle.drawing.specs.Strands.{strand_at};
 
+use crate::layout::Layout;
+use crate::strands::strand_table;
 use obd_base::{Exit, Items, NoMemory, SideNo, StrandNo};
 use page_surface::Polygon;
 use std::alloc::Global;
@@ -16,11 +19,10 @@ use std::marker::Model;
 /// Its type keeps that the drawing is embedded and has fewer than 2^28 points.
 #[derive(Drop)]
 pub struct Drawing {
-    pub(crate) alloc: Global,
-    pub(crate) polygon: Polygon,
-    pub(crate) strands: Items<Items<Exit>>,
-    pub(crate) points: u32,
-    pub(crate) strands_at: Items<Items<StrandNo>>,
+    alloc: Global,
+    layout: Layout,
+    points: u32,
+    strands_at: Items<StrandNo>,
 }
 
 impl Model for Drawing {
@@ -29,18 +31,46 @@ impl Model for Drawing {
 
     ghost Value = { Shown };
 
-    ghost view = { λ d. record { polygon = d.polygon; strands = d.strands } };
+    ghost view = { λ d. d.layout };
 
-    ghost invariant = { λ d. IsKept (record { polygon = d.polygon; strands = d.strands }) d.points d.strands_at };
+    ghost invariant = { λ d. IsKept d.layout d.points d.strands_at };
+}
+
+// How many exits some strands have together. There are at most 8 strands.
+fn exit_count(strands: &[Items<Exit>]) -> u32
+    requires { length (flat_map (λ strand. strand) strands.now) < 2 ^ 28 }
+    ensures { result ≡ length (flat_map (λ strand. strand) strands.now) }
+{
+    let mut count: u32 = 0;
+    for strand in strands {
+        count += strand.len() as u32;
+    }
+    count
 }
 
 impl Drawing {
+    // The drawing that is laid out. Linear in the exits and sides.
+    pub(crate) fn of(alloc: Global, layout: Layout) -> Result<Drawing, NoMemory>
+        requires embedded { IsEmbedded layout }
+        requires few { length (all_exits layout) < 2 ^ 28 }
+        ensures { IfOk result (λ drawing. drawing ≡ layout) }
+    {
+        let strands_at = strand_table(alloc, &layout)?;
+        let points = exit_count(layout.strands());
+        Ok(Drawing {
+            alloc,
+            layout,
+            points,
+            strands_at,
+        })
+    }
+
     /// The polygon in which the strands lie. Constant time, as are the calls below but `word` and `exits`; all
     /// but these take no memory.
     pub fn polygon(&self) -> &Polygon
         ensures { result.now ≡ self.now.polygon }
     {
-        &self.polygon
+        self.layout.polygon()
     }
 
     /// The number of crossing points: of all exits together.
@@ -57,7 +87,7 @@ impl Drawing {
         requires { side < sides self.now.polygon }
         ensures { result ≡ points_on self.now side }
     {
-        self.strands_at.as_slice()[side.number() as usize].len() as u32
+        self.layout.points_on(side)
     }
 
     /// The number of chords of a strand: one more than its exits.
@@ -65,7 +95,7 @@ impl Drawing {
         requires { strand < arc_count self.now.polygon }
         ensures { result ≡ suc (length (strand_exits self.now strand)) }
     {
-        self.strands.as_slice()[strand.number() as usize].len() as u32 + 1
+        self.layout.exits(strand).len() as u32 + 1
     }
 
     /// The exit at which a chord ends, and `None` exactly for the last chord of the strand.
@@ -74,8 +104,7 @@ impl Drawing {
         requires chord { chord ≤ length (strand_exits self.now strand) }
         ensures { result ≡ slice_get (strand_exits self.now strand) chord }
     {
-        let exits = self.strands.as_slice()[strand.number() as usize].as_slice();
-        exits.get(chord as usize).copied()
+        self.layout.exits(strand).get(chord as usize).copied()
     }
 
     /// The strand that has its exit or its entry at a place of a side.
@@ -84,7 +113,7 @@ impl Drawing {
         requires place { place < points_on self.now side }
         ensures { result ≡ strand_at self.now side place }
     {
-        self.strands_at.as_slice()[side.number() as usize].as_slice()[place as usize]
+        self.strands_at.as_slice()[self.layout.spot(Exit { side, place }) as usize]
     }
 
     /// The word of a strand: the sides by which it leaves, in order. Linear in the exits of the strand.
@@ -93,7 +122,7 @@ impl Drawing {
         ensures { IfOk result (λ word. word.items ≡ map (λ e. e.side) (strand_exits self.now strand)) }
     {
         let mut word = Vec::new(self.alloc);
-        for exit in self.strands.as_slice()[strand.number() as usize].as_slice() {
+        for exit in self.layout.exits(strand) {
             word.push(exit.side)?;
         }
         Ok(word)
@@ -104,7 +133,6 @@ impl Drawing {
         requires { strand < arc_count self.now.polygon }
         ensures { IfOk result (λ exits. exits.items ≡ strand_exits self.now strand) }
     {
-        let exits = self.strands.as_slice()[strand.number() as usize].as_slice();
-        Ok(Vec::from_slice(self.alloc, exits)?)
+        Ok(Vec::from_slice(self.alloc, self.layout.exits(strand))?)
     }
 }

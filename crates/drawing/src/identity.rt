@@ -1,42 +1,23 @@
 // The drawing in which each strand crosses its own arc once.
-ghost use Rattle.std.specs.Prelude.{◌≡◌, [], ◌∷◌, map, IfOk};
-ghost use Rattle.obd_base.specs.Lists.{below};
+ghost use Rattle.std.specs.Prelude.{◌≡◌, [], ◌∷◌, IfOk};
 ghost use Rattle.page_surface.specs.Drawing.{exit, identity};
-ghost use Rattle.page_surface.specs.Polygon.{arc, arc_count, second_side, sides};
 
 use crate::Drawing;
-use obd_base::{ArcNo, Exit, Items, NoMemory, SideNo, StrandNo};
+use crate::layout::Layout;
+use obd_base::{ArcNo, Exit, Items, NoMemory, SideNo};
 use page_surface::Polygon;
 use std::alloc::Global;
 
-// The strands: each leaves by the second side of its arc.
-fn strands(alloc: Global, polygon: &Polygon) -> Result<Items<Items<Exit>>, NoMemory>
-    ensures { IfOk result (λ strands. strands ≡ (identity polygon.now).strands) }
+// The one exit of a strand: it leaves by the second side of its arc.
+fn crossing(alloc: Global, second_side: SideNo) -> Result<Items<Exit>, NoMemory>
+    ensures { IfOk result (λ exits. exits ≡ exit second_side 0 ∷ []) }
 {
-    let mut strands = Items::new(alloc);
-    for arc in 0..polygon.sides() / 2 {
-        let first_side = polygon.first_side(ArcNo::new(arc));
-        let mut exits = Items::new(alloc);
-        exits.push(Exit {
-            side: polygon.pair(first_side),
-            place: 0,
-        })?;
-        strands.push(exits)?;
-    }
-    Ok(strands)
-}
-
-// The strand through the one point of each side.
-fn strands_at(alloc: Global, polygon: &Polygon) -> Result<Items<Items<StrandNo>>, NoMemory>
-    ensures { IfOk result (λ rows. rows ≡ map (λ k. arc polygon.now k ∷ []) (below (sides polygon.now))) }
-{
-    let mut rows = Items::new(alloc);
-    for side in 0..polygon.sides() {
-        let mut row = Items::new(alloc);
-        row.push(StrandNo::new(polygon.arc(SideNo::new(side)).number()))?;
-        rows.push(row)?;
-    }
-    Ok(rows)
+    let mut exits = Items::new(alloc);
+    exits.push(Exit {
+        side: second_side,
+        place: 0,
+    })?;
+    Ok(exits)
 }
 
 impl Drawing {
@@ -44,12 +25,12 @@ impl Drawing {
     pub fn identity(alloc: Global, polygon: &Polygon) -> Result<Drawing, NoMemory>
         ensures { IfOk result (λ drawing. drawing ≡ identity polygon.now) }
     {
-        Ok(Drawing {
-            alloc,
-            polygon: polygon.copy()?,
-            strands: strands(alloc, polygon)?,
-            points: polygon.sides() / 2,
-            strands_at: strands_at(alloc, polygon)?,
-        })
+        let mut strands = Items::new(alloc);
+        for arc in 0..polygon.sides() / 2 {
+            let first_side = polygon.first_side(ArcNo::new(arc));
+            strands.push(crossing(alloc, polygon.pair(first_side))?)?;
+        }
+        let layout = Layout::of(alloc, polygon.copy()?, strands)?;
+        Drawing::of(alloc, layout)
     }
 }

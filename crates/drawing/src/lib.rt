@@ -7,7 +7,10 @@
 //! different strands; it is after Honda, Kazez and Matić (2009).
 #![tactic(auto)]
 
+mod counts;
 mod drawing;
 mod identity;
+mod layout;
+mod strands;
 
 pub use drawing::Drawing;

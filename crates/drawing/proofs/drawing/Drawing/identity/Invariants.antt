@@ -2,7 +2,7 @@ use Rattle.std.proofs.Common.{◌≡◌, [], ◌∷◌, map}
 use Rattle.obd_base.specs.Lists.{below}
 use Rattle.page_surface.specs.Drawing.{exit}
 use Rattle.page_surface.specs.Polygon.{second_side}
-use Rattle.drawing.proofs.identity.strands.Given as goal
+use Rattle.drawing.proofs.drawing.Drawing.identity.Given as goal
 
 -- the strands of the arcs so far
 abbrev pub invariant-loop-arc : goal.invariant-loop-arc
