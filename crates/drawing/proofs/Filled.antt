@@ -1,11 +1,11 @@
 -- Tables that are filled entry by entry.
-use Rattle.std.proofs.Common.{◌≡◌, ℕ, suc, ◌+◌, ◌*◌, ◌<◌, ◌≤◌, ◌^◌, Bool, true, eqb, ltb, List, [], ◌∷◌, ◌++◌, map, length, get_or, set, take, refl, sym, ◌∙◌, ap, subst, arith, zero-add, inl, inr}
-use Rattle.std.specs.List.{list_all, sum_by, count_by}
+use Rattle.std.proofs.Common.{◌≡◌, ℕ, suc, ◌+◌, ◌*◌, ◌<◌, ◌≤◌, ◌^◌, Bool, true, eqb, ltb, List, [], ◌∷◌, ◌++◌, map, length, get_or, set, take, sym, ◌∙◌, ap, subst, arith, inl, inr}
+use Rattle.std.specs.List.{list_all, sum_by}
 use Rattle.std.proofs.lemmas.Bool.{cases_eq, eq-eqb, ne_eqb, ltb-true}
 use Rattle.std.proofs.lemmas.List.{get_or_read, get_or-set_same, get_or-set_other, length-set, take_all, length-take-le, map-append}
 use Rattle.std.proofs.lemmas.List.Sums.{count_by-le-length, sum_by_more}
-use Rattle.std.proofs.lemmas.List.FromFn.{fill_by_all, map-range_with_len_more}
-use Rattle.obd_base.specs.Lists.{below, Mem}
+use Rattle.std.proofs.lemmas.List.FromFn.{fill_by_all}
+use Rattle.obd_base.specs.Lists.{below}
 use Rattle.obd_base.specs.declared.points.Exit.{Exit}
 use Rattle.obd_base.proofs.lists.Below.{below_push, bit}
 use Rattle.obd_base.proofs.lists.Sums.{bit-le}
@@ -105,4 +105,3 @@ counted_all p exits i counts l filled =
 -- an exit of some on sides is on a side
 pub side_there : (p : Polygon) (exits : List Exit) (i : ℕ) (e : Exit) → list_all (λ e. ltb e.side (sides p)) exits ≡ true → i < length exits → e ≡ get_or exits i e → e.side < sides p
 side_there p exits i e on l is = ltb-true _ _ (all_in (λ e. ltb e.side (sides p)) e exits on (mem_at exits i e l is))
-

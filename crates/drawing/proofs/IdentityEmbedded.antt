@@ -1,7 +1,7 @@
 -- The identity drawing of a polygon is embedded, and has one point on each side.
-use Rattle.std.proofs.Common.{◌≡◌, ℕ, suc, ◌+◌, ◌<◌, ◌≤◌, ◌^◌, Bool, true, false, eqb, ltb, not, ◌&&◌, ◌||◌, List, [], ◌∷◌, map, length, refl, sym, ◌∙◌, ap, subst, arith, zero-add, ◌⊎◌, inl, inr, ◌≢◌}
+use Rattle.std.proofs.Common.{◌≡◌, ℕ, suc, ◌+◌, ◌<◌, ◌≤◌, ◌^◌, Bool, true, false, eqb, ltb, not, ◌&&◌, List, [], ◌∷◌, map, length, refl, sym, ◌∙◌, ap, subst, arith, zero-add, ◌⊎◌, inl, inr, ◌≢◌}
 use Rattle.std.specs.List.{sum_by, list_all}
-use Rattle.std.proofs.lemmas.Bool.{eq-eqb, ne_eqb, lt-ltb, and_from}
+use Rattle.std.proofs.lemmas.Bool.{eq-eqb, lt-ltb, and_from}
 use Rattle.std.proofs.lemmas.List.Sums.{sum_by-cons}
 use Rattle.std.proofs.lemmas.List.FromFn.{length-map-range_with_len, get_or-map-range_with_len}
 use Rattle.obd_base.specs.Lists.{below, Mem}
@@ -14,7 +14,7 @@ use Rattle.page_surface.specs.Drawing.{Drawing, exit, end_of, offset, points_on,
 use Rattle.page_surface.proofs.EmbeddedTest.{all_from}
 use Rattle.drawing.specs.Layout.{drawn}
 use Rattle.drawing.proofs.ChordTree.{beyond-suc}
-use Rattle.drawing.proofs.Lists.{first_is, flat_mem, length_sum}
+use Rattle.drawing.proofs.Lists.{flat_mem, length_sum}
 use Rattle.drawing.proofs.Mates.{end_here, ends_from, ends_to}
 use Rattle.drawing.proofs.Placed.{one_arc, ends_of, ends_at, at_most_one_end-placed}
 

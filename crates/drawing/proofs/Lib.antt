@@ -9,14 +9,18 @@ pub mod Generators
 mod IdentityEmbedded
 mod IdentityTables
 mod KeptTables
-mod LayoutTables
 pub mod Laws
+mod LayoutTables
 pub mod Lists
 mod Mates
 mod Orbits
 mod PieceCount
 mod Placed
 pub mod SamePiece
+mod Hits
 mod Spots
+mod StackSweep
 mod StrandTables
+mod SweepTables
+mod SweepTest
 pub mod Tests

@@ -1,6 +1,6 @@
 -- Where places are right one strand passes through each point, and how its table is filled.
-use Rattle.std.proofs.Common.{◌≡◌, ℕ, suc, ◌+◌, ◌-◌, ◌<◌, ◌≤◌, Bool, true, false, cond, eqb, ◌&&◌, ◌||◌, List, [], ◌∷◌, length, get_or, set, take, drop, ◌++◌, refl, sym, ◌∙◌, ap, ap₂, subst, arith, inl, inr, ◌≢◌}
-use Rattle.std.specs.List.{list_any, position_or_len, sum_by}
+use Rattle.std.proofs.Common.{◌≡◌, ℕ, ◌+◌, ◌-◌, ◌<◌, ◌≤◌, Bool, true, false, cond, eqb, ◌||◌, List, [], ◌∷◌, length, get_or, set, take, drop, ◌++◌, refl, sym, ◌∙◌, ap, ap₂, subst, arith, inl, inr, ◌≢◌}
+use Rattle.std.specs.List.{list_any, sum_by}
 use Rattle.std.proofs.lemmas.Bool.{cases_Bool, cases_eq, eq-eqb, ne_eqb, false≢true}
 use Rattle.std.proofs.lemmas.List.{get_or-set_same, get_or-set_other, length-set, take_all, append-nil, drop_all}
 use Rattle.std.proofs.lemmas.List.Folds.{list_any_more}
@@ -177,15 +177,15 @@ set_both d exits i e strand a b start table l is at back so_far size x lx =
     let here : (eqb (spot d (get_or exits i e)) x || eqb (spot d (entry d (get_or exits i e))) x) ≡ (eqb a x || eqb b x)
     = ap (λ (y : Exit). eqb (spot d y) x || eqb (spot d (entry d y)) x) (sym is) ∙ ap₂ (λ (p q : ℕ). eqb p x || eqb q x) (sym at) (sym back) in
     let goal : get_or (set (set table a strand) b strand) x 0 ≡ cond (meets d (take i exits) x || (eqb a x || eqb b x)) strand (get_or start x 0) =
-        elim (cases_eq b x) [
-          | inl q ↦ subst (λ (y : ℕ). get_or (set (set table a strand) b strand) y 0 ≡ cond (meets d (take i exits) x || (eqb a x || eqb b x)) strand (get_or start x 0)) q
-              (get_or-set_same (set table a strand) b strand 0 (omega (arith, length-set table a strand, size, q)) ∙ sym (rw (eq-eqb b x q) (late (meets d (take i exits) x) (eqb a x))))
-          | inr n ↦ get_or-set_other (set table a strand) b x strand 0 (λ q. n (sym q)) ∙ elim (cases_eq a x) [
-            | inl q ↦ subst (λ (y : ℕ). get_or (set table a strand) y 0 ≡ cond (meets d (take i exits) x || (eqb a x || eqb b x)) strand (get_or start x 0)) q
-                (get_or-set_same table a strand 0 (omega (arith, size, q)) ∙ sym (rw (eq-eqb a x q) (mid (meets d (take i exits) x))))
-            | inr k ↦ get_or-set_other table a x strand 0 (λ q. k (sym q)) ∙ (so_far x lx ∙ sym (rw (ne_eqb a x k, ne_eqb b x n) (none (meets d (take i exits) x))))
-          ]
-        ] in
+    elim (cases_eq b x) [
+      | inl q ↦ subst (λ (y : ℕ). get_or (set (set table a strand) b strand) y 0 ≡ cond (meets d (take i exits) x || (eqb a x || eqb b x)) strand (get_or start x 0)) q
+          (get_or-set_same (set table a strand) b strand 0 (omega (arith, length-set table a strand, size, q)) ∙ sym (rw (eq-eqb b x q) (late (meets d (take i exits) x) (eqb a x))))
+      | inr n ↦ get_or-set_other (set table a strand) b x strand 0 (λ q. n (sym q)) ∙ elim (cases_eq a x) [
+        | inl q ↦ subst (λ (y : ℕ). get_or (set table a strand) y 0 ≡ cond (meets d (take i exits) x || (eqb a x || eqb b x)) strand (get_or start x 0)) q
+            (get_or-set_same table a strand 0 (omega (arith, size, q)) ∙ sym (rw (eq-eqb a x q) (mid (meets d (take i exits) x))))
+        | inr k ↦ get_or-set_other table a x strand 0 (λ q. k (sym q)) ∙ (so_far x lx ∙ sym (rw (ne_eqb a x k, ne_eqb b x n) (none (meets d (take i exits) x))))
+      ]
+    ] in
     goal ∙ ap (λ (t : Bool). cond t strand (get_or start x 0)) (ap (λ (t : Bool). meets d (take i exits) x || t) (sym here) ∙ sym more)
   where
     late : (m c : Bool) → cond (m || (c || true)) strand (get_or start x 0) ≡ strand

@@ -5,6 +5,8 @@ pub mod Kept
 pub mod Layout
 pub mod Pieces
 pub mod Points
+pub mod Reading
 pub mod Round
 pub mod Strands
+pub mod Sweep
 pub mod Tight

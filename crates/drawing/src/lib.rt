@@ -7,10 +7,15 @@
 //! different strands; it is after Honda, Kazez and Matić (2009).
 #![tactic(auto)]
 
+mod chords;
 mod counts;
 mod drawing;
 mod identity;
 mod layout;
+mod places;
+mod read;
+mod refusal;
 mod strands;
 
 pub use drawing::Drawing;
+pub use refusal::DrawRefusal;

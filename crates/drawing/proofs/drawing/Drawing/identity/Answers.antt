@@ -1,5 +1,4 @@
-use Rattle.std.proofs.Common.{◌≡◌, ◌∙◌}
-use Rattle.page_surface.specs.Drawing.{IsEmbedded}
+use Rattle.std.proofs.Common.{◌≡◌}
 use Rattle.page_surface.specs.Polygon.{second_side}
 use Rattle.drawing.proofs.IdentityEmbedded.{copy_embedded, copy_few, copy_is, copy_on_sides, copy_strands}
 use Rattle.drawing.proofs.IdentityTables.{all_strands, strands_more}

@@ -1,5 +1,4 @@
-use Rattle.std.proofs.Common.{◌≡◌, ◌+◌, get_or, ap, arith}
-use Rattle.page_surface.specs.Drawing.{offset}
+use Rattle.std.proofs.Common.{arith}
 use Rattle.drawing.proofs.LayoutTables.{offset_count, points_read}
 use Rattle.drawing.proofs.layout.Layout.points_on.Goals as goal
 

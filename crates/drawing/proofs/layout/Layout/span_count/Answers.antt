@@ -1,4 +1,4 @@
-use Rattle.std.proofs.Common.{arith, le_refl}
+use Rattle.std.proofs.Common.{arith}
 use Rattle.drawing.proofs.LayoutTables.{offset_count, total_read}
 use Rattle.drawing.proofs.layout.Layout.span_count.Goals as goal
 
