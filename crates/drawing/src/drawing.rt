@@ -85,7 +85,8 @@ impl Drawing {
     /// The number of points on a side: of the exits and entries there.
     pub fn points_on(&self, side: SideNo) -> u32
         requires { side < sides self.now.polygon }
-        ensures { result ≡ points_on self.now side }
+        ensures value { result ≡ points_on self.now side }
+        ensures few { result < 2 ^ 30 }
     {
         self.layout.points_on(side)
     }

@@ -88,7 +88,8 @@ impl Layout {
     // The number of points on a side.
     pub(crate) fn points_on(&self, side: SideNo) -> u32
         requires { side < sides self.now.polygon }
-        ensures { result ≡ points_on self.now side }
+        ensures value { result ≡ points_on self.now side }
+        ensures few { result < 2 ^ 30 }
     {
         let offsets = self.offsets.as_slice();
         let side = side.number() as usize;

@@ -12,7 +12,7 @@ overflow_add-index_mut c =
     let all = c.deref-exit-items.ensures.value ∙ (c.in_ok-exits.ensures ∙ ap (λ (xs : List (List Exit)). flat_map (λ s. s) xs) c.strands.ensures) in
     let ls = exit_side d _ _ _ c.polygon.ensures.written all c.loop-exit-test.true c.exit-item.is in
     let few : length c.deref-exit-items.result.now < 2 ^ 28 = let e = ap length all in omega (arith, e, c.polygon.ensures.written.few) in
-    let lp : c.exit-item.result.place < points_on d c.exit-item.result.side = omega (arith, c.if-exit-points_on.true, c.points_on.ensures) in
+    let lp : c.exit-item.result.place < points_on d c.exit-item.result.side = omega (arith, c.if-exit-points_on.true, c.points_on.ensures.value) in
     let fits = exit_hit_fits d _ _ _ _ c.loop-exit-test.true c.exit-item.is c.loop-exit.invariant lp _ _ c.spot.ensures.value (omega (arith, c.spot.ensures.inside)) c.index_mut.ensures.value few in
     omega (arith, fits)
 
@@ -21,7 +21,7 @@ spot-requires-then-exit-points_on-clause-place c =
     let d = c.args.layout.now in
     let all = c.deref-exit-items.ensures.value ∙ (c.in_ok-exits.ensures ∙ ap (λ (xs : List (List Exit)). flat_map (λ s. s) xs) c.strands.ensures) in
     let ls = exit_side d _ _ _ c.polygon.ensures.written all c.loop-exit-test.true c.exit-item.is in
-    let lp : c.exit-item.result.place < points_on d c.exit-item.result.side = omega (arith, c.if-exit-points_on.true, c.points_on.ensures) in
+    let lp : c.exit-item.result.place < points_on d c.exit-item.result.side = omega (arith, c.if-exit-points_on.true, c.points_on.ensures.value) in
     (entry_place d _ _ c.polygon.ensures.written.polygon ls lp c.entry.ensures).1
 
 pub overflow_add-index_mut-then-exit-points_on : goal.overflow_add-index_mut-then-exit-points_on
@@ -30,7 +30,7 @@ overflow_add-index_mut-then-exit-points_on c =
     let all = c.deref-exit-items.ensures.value ∙ (c.in_ok-exits.ensures ∙ ap (λ (xs : List (List Exit)). flat_map (λ s. s) xs) c.strands.ensures) in
     let ls = exit_side d _ _ _ c.polygon.ensures.written all c.loop-exit-test.true c.exit-item.is in
     let few : length c.deref-exit-items.result.now < 2 ^ 28 = let e = ap length all in omega (arith, e, c.polygon.ensures.written.few) in
-    let lp : c.exit-item.result.place < points_on d c.exit-item.result.side = omega (arith, c.if-exit-points_on.true, c.points_on.ensures) in
+    let lp : c.exit-item.result.place < points_on d c.exit-item.result.side = omega (arith, c.if-exit-points_on.true, c.points_on.ensures.value) in
     let fits = entry_hit_fits d _ _ _ _ c.loop-exit-test.true c.exit-item.is c.loop-exit.invariant lp _ _ c.spot.ensures.value (omega (arith, c.spot.ensures.inside)) c.index_mut.ensures.value
     _ _ (c.spot-then-exit-points_on.ensures.value ∙ ap (spot d) c.entry.ensures) (omega (arith, c.spot-then-exit-points_on.ensures.inside)) c.index_mut-then-exit-points_on.ensures.value few in
     omega (arith, fits)
@@ -39,12 +39,12 @@ pub loop-exit-preserved : goal.loop-exit-preserved
 loop-exit-preserved c = elim c.if-exit-points_on.branch [
   | then-exit-points_on w ↦
       let d = c.args.layout.now in
-      let lp : c.exit-item.result.place < points_on d c.exit-item.result.side = omega (arith, w.if-exit-points_on.true, c.points_on.ensures) in
+      let lp : c.exit-item.result.place < points_on d c.exit-item.result.side = omega (arith, w.if-exit-points_on.true, c.points_on.ensures.value) in
       rw w.hits-is (entry_hit d _ _ _ _ c.loop-exit-test.true c.exit-item.is c.loop-exit.invariant lp _ _ w.spot.ensures.value (omega (arith, w.spot.ensures.inside)) w.index_mut.ensures.value
       _ _ (w.spot-then-exit-points_on.ensures.value ∙ ap (spot d) w.entry.ensures) (omega (arith, w.spot-then-exit-points_on.ensures.inside)) w.index_mut-then-exit-points_on.ensures.value)
   | else-exit-points_on w ↦
       let d = c.args.layout.now in
-      rw w.hits-is (off_side d _ _ _ _ c.loop-exit-test.true c.exit-item.is c.loop-exit.invariant (omega (arith, w.if-exit-points_on.false, c.points_on.ensures)))
+      rw w.hits-is (off_side d _ _ _ _ c.loop-exit-test.true c.exit-item.is c.loop-exit.invariant (omega (arith, w.if-exit-points_on.false, c.points_on.ensures.value)))
 ]
 
 pub returns : goal.returns

@@ -1,5 +1,5 @@
 use Rattle.std.proofs.Common.{arith}
-use Rattle.drawing.proofs.LayoutTables.{offset_count, points_read}
+use Rattle.drawing.proofs.LayoutTables.{offset_count, points_read, spot_read}
 use Rattle.drawing.proofs.layout.Layout.points_on.Goals as goal
 
 pub bounds-offsets-side : goal.bounds-offsets-side
@@ -14,5 +14,11 @@ overflow_sub-result c = let k = points_read _ _ c.self.view_is _ c.self.invarian
 pub overflow_sub-result-2 : goal.overflow_sub-result-2
 overflow_sub-result-2 c = let k = points_read _ _ c.self.view_is _ c.self.invariant _ _ c.number-side.ensures.value c.requires in rw c.as_slice-offsets.ensures (omega (arith, k))
 
-pub returns : goal.returns
-returns c = let k = points_read _ _ c.self.view_is _ c.self.invariant _ _ c.number-side.ensures.value c.requires in rw c.as_slice-offsets.ensures (omega (arith, k))
+pub returns-clause-value : goal.returns-clause-value
+returns-clause-value c = let k = points_read _ _ c.self.view_is _ c.self.invariant _ _ c.number-side.ensures.value c.requires in rw c.as_slice-offsets.ensures (omega (arith, k))
+
+pub returns-clause-few : goal.returns-clause-few
+returns-clause-few c =
+    let k = points_read _ _ c.self.view_is _ c.self.invariant _ _ c.number-side.ensures.value c.requires in
+    let f = spot_read _ _ c.self.view_is _ c.self.invariant _ _ c.number-side.ensures.value c.requires in
+    rw c.as_slice-offsets.ensures (omega (arith, k, f))
