@@ -1,10 +1,10 @@
 -- How often the sides of a label stand among the sides of a page: its first once, and its second once.
 use Rattle.std.proofs.Common.{◌≡◌, ℕ, zero, suc, ◌+◌, ◌-◌, ◌<◌, ◌≤◌, min, Bool, true, false, cond, ◌&&◌, eqb, not, List, [], ◌∷◌, ◌++◌, length, get_or, Some, None, refl, sym, subst, ap, ◌∙◌, arith, inl, inr}
-use Rattle.std.specs.List.{count_by, find}
+use Rattle.std.specs.List.{count_by, find, flat_map}
 use Rattle.std.specs.Str.{bytes_eq}
 use Rattle.std.specs.List.{slice_get}
 use Rattle.std.proofs.lemmas.Bool.{cases_Bool, cases_eq, false≢true, eq-eqb, ne_eqb, eqb-true, not-false}
-use Rattle.std.proofs.lemmas.List.{append-nil, length_push}
+use Rattle.std.proofs.lemmas.List.{length_push}
 use Rattle.std.proofs.lemmas.List.Folds.{list_any_at}
 use Rattle.std.proofs.lemmas.List.Sums.{sum_by-cons}
 use Rattle.std.proofs.lemmas.Option.{same_Some}
@@ -12,7 +12,7 @@ use Rattle.std.proofs.lemmas.Slice.Eq.{bytes_eq-Decides}
 use Rattle.obd_base.specs.Lists.{Mem}
 use Rattle.page_surface.specs.declared.page.SideLabel.{SideLabel}
 use Rattle.page_surface.specs.Joining.{side, is_side}
-use Rattle.page_surface.specs.Labels.{Label, with_label, with_labels, label_number, labels_of, occurrences_of, side_labels}
+use Rattle.page_surface.specs.Labels.{Label, with_label, with_labels, label_number, all_sides, labels_of, occurrences_of, side_labels, side_labels_of}
 use Rattle.page_surface.specs.Page.{IsPage, refusals}
 use Rattle.page_surface.specs.declared.refusal.PageRefusal.TheVariants.{LabelCount}
 use Rattle.page_surface.proofs.LabelNumbers.{has, has_still, has_new, has_no_other, at_places, first_below}
@@ -102,7 +102,7 @@ module _ (all : List Label) (label : Label) (among : has all label ≡ true) whe
       ]
 
 -- where none is found, each fails
-none_passes : {X : Type 0} (p : X → Bool) (xs : List X) (i : ℕ) (d : X) → find p xs ≡ None → i < length xs → p (get_or xs i d) ≡ false
+pub none_passes : {X : Type 0} (p : X → Bool) (xs : List X) (i : ℕ) (d : X) → find p xs ≡ None → i < length xs → p (get_or xs i d) ≡ false
 none_passes p [] i d none l = absurd (omega arith)
 none_passes p (x ∷ xs) i d none l = go (p x) refl none i l (λ k. none_passes p xs k d)
   where
@@ -120,22 +120,31 @@ twice_on_page polygons page number l =
     let none = none_found (λ label. LabelCount label (occurrences_of polygons label)) _ rules.1.1.1.1.0 in
     eqb-true _ _ (not-false _ (none_passes (λ label. not (eqb (occurrences_of polygons label) 2)) (labels_of polygons) number [] none l))
 
--- so on a page of one polygon each side of each label stands once
-pub each_once : (names : List Label) → IsPage (names ∷ []) → (number occurrence : ℕ) → number < length (with_labels [] names) → occurrence ≤ 1
-    → stands number occurrence (side_labels [] names) ≡ 1
-each_once names page number occurrence l o =
-    let label : Label = get_or (with_labels [] names) number [] in
-    let bare : names ++ [] ≡ names = append-nil names in
-    let twice : times names label ≡ 2
-    = subst (λ (xs : List Label). times xs (get_or (with_labels [] xs) number []) ≡ 2) bare
-    (twice_on_page (names ∷ []) page number (subst (λ (xs : List Label). number < length (with_labels [] xs)) (sym bare) l)) in
-    let at : label_number (with_labels [] names) label ≡ number = at_places names number l in
-    let among : has (with_labels [] names) label ≡ true = list_any_at _ (with_labels [] names) number [] l ((bytes_eq-Decides label label).1 refl) in
-    let both = new_stands (with_labels [] names) label among [] names refl refl in
+-- so each side of each label stands once among all sides
+pub each_once : (polygons : List (List Label)) → IsPage polygons → (number occurrence : ℕ) → number < length (labels_of polygons) → occurrence ≤ 1
+    → stands number occurrence (side_labels [] (all_sides polygons)) ≡ 1
+each_once polygons page number occurrence l o =
+    let label : Label = get_or (labels_of polygons) number [] in
+    let twice : times (all_sides polygons) label ≡ 2 = twice_on_page polygons page number l in
+    let at : label_number (labels_of polygons) label ≡ number = at_places (all_sides polygons) number l in
+    let among : has (labels_of polygons) label ≡ true = list_any_at _ (labels_of polygons) number [] l ((bytes_eq-Decides label label).1 refl) in
+    let both = new_stands (labels_of polygons) label among [] (all_sides polygons) refl refl in
     elim (cases_eq occurrence 0) [
       | inl e ↦ rw (e, ← at) (omega (arith, both, twice))
       | inr n ↦ (let e : occurrence ≡ 1 = omega arith in rw (e, ← at) (omega (arith, both, twice)))
     ]
+
+-- the sides of all polygons are those of all sides read one after another
+pub sides_in_row : (appeared : List Label) (polygons : List (List Label))
+    → flat_map (λ polygon. polygon) (side_labels_of appeared polygons) ≡ side_labels appeared (all_sides polygons)
+sides_in_row appeared [] = refl
+sides_in_row appeared (names ∷ polygons) =
+    ap (λ sides. side_labels appeared names ++ sides) (sides_in_row (with_labels appeared names) polygons) ∙ sym (labels_after appeared names (all_sides polygons))
+  where
+    labels_after : (appeared names more : List Label) → side_labels appeared (names ++ more) ≡ side_labels appeared names ++ side_labels (with_labels appeared names) more
+    labels_after appeared [] more = refl
+    labels_after appeared (x ∷ names) more =
+        ap (λ sides. record { label = label_number appeared x; occurrence = cond (has appeared x) 1 0 } ∷ sides) (labels_after (with_label appeared x) names more)
 
 -- each side has the number of a label, and is a first or a second occurrence
 pub side_named : (labels names : List Label) (s : SideLabel) → Mem s (side_labels labels names)

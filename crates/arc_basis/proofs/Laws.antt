@@ -51,7 +51,7 @@ module _ (names : List Label) (page : IsPage (names ∷ [])) where
 
   -- each side of each label stands once
   once : (label occurrence : ℕ) → label < count → occurrence ≤ 1 → stands label occurrence sides ≡ 1
-  once label occurrence l o = each_once names page label occurrence (subst (λ (xs : List Label). label < length (with_labels [] xs)) bare l) o
+  once label occurrence l o = subst (λ (xs : List Label). stands label occurrence (side_labels [] xs) ≡ 1) bare (each_once (names ∷ []) page label occurrence l o)
 
   -- so both are there
   both_there : (label occurrence : ℕ) → label < count → occurrence ≤ 1 → has_side (side label occurrence) sides ≡ true

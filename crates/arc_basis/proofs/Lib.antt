@@ -1,5 +1,5 @@
-mod LabelCounts
+pub mod LabelCounts
 pub mod Laws
-mod Paired
+pub mod Paired
 pub mod Places
 mod Tables

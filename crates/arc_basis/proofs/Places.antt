@@ -1,11 +1,12 @@
 -- The first place in a list that passes a test, and how many places do.
-use Rattle.std.proofs.Common.{◌≡◌, ℕ, zero, suc, ◌<◌, ◌≤◌, Bool, true, false, cond, List, [], ◌∷◌, ◌++◌, length, get_or, Some, None, refl, ◌∙◌, arith, inl, inr}
-use Rattle.std.specs.List.{count_by, list_any, position, position_or_len}
+use Rattle.std.proofs.Common.{◌≡◌, ℕ, zero, suc, ◌+◌, ◌<◌, ◌≤◌, Bool, true, false, cond, List, [], ◌∷◌, ◌++◌, map, length, take, get_or, Some, None, refl, sym, ap, ap₂, subst, ◌∙◌, arith, inl, inr}
+use Rattle.std.specs.List.{count_by, list_any, position, position_or_len, slice_get}
 use Rattle.std.specs.Option.{option_or}
 use Rattle.std.proofs.lemmas.Bool.{cases_Bool, lt-ltb, le-ltb, or_from}
 use Rattle.std.proofs.lemmas.List.Folds.{list_any-append}
-use Rattle.std.proofs.lemmas.List.{length_push}
+use Rattle.std.proofs.lemmas.List.{length_push, map-append, take_more}
 use Rattle.std.proofs.lemmas.List.Sums.{sum_by-cons}
+use Rattle.std.proofs.lemmas.Option.{get_or_from_slice_get, slice_get_within}
 use Rattle.obd_base.specs.Lists.{Mem}
 use Rattle.page_surface.proofs.LabelNumbers.{first_below, first_none, first_push, first_at_push}
 
@@ -69,3 +70,17 @@ module _ {X : Type 0} (p : X → Bool) where
         let head : cond {A = ℕ} (p x) 1 0 ≡ 0 = rw other refl in
         rw other (omega (arith, only_place xs k d (omega (arith, head, one, sum_by-cons (λ y. cond (p y) 1 0) x xs)) (omega arith) t))
   ]
+
+-- one item more of a list
+pub take_next : {X : Type 0} (xs : List X) (i : ℕ) (x : X) → slice_get xs i ≡ Some x → take (i + 1) xs ≡ take i xs ++ x ∷ []
+take_next xs i x e = take_more xs i x (slice_get_within xs i x e) ∙ ap (λ y. take i xs ++ y ∷ []) (get_or_from_slice_get xs i x x e)
+
+-- what is made of one item more
+pub map_more : {X Y : Type 0} (f : X → Y) (xs : List X) (i : ℕ) (x : X) (ys zs : List Y) (y : Y) → i < length xs → x ≡ get_or xs i x
+    → ys ≡ map f (take i xs) → zs ≡ ys ++ y ∷ [] → y ≡ f x → zs ≡ map f (take (i + 1) xs)
+map_more f xs i x ys zs y l is so_far more new =
+    more ∙ (ap₂ (λ us u. us ++ u ∷ []) so_far (new ∙ ap f is) ∙ (sym (map-append f (take i xs) (get_or xs i x ∷ [])) ∙ ap (map f) (sym (take_more xs i x l))))
+
+-- what is read at a place is a member
+pub mem_read : {X : Type 0} (xs : List X) (i : ℕ) (x : X) → i < length xs → x ≡ get_or xs i x → Mem x xs
+mem_read xs i x l e = subst (λ y. Mem y xs) (sym e) (mem_at xs i x l)

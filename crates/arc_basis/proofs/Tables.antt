@@ -1,28 +1,17 @@
 -- The tables of sides, as they are filled and as they are read.
-use Rattle.std.proofs.Common.{◌≡◌, ℕ, ◌+◌, ◌<◌, ◌≤◌, Bool, true, false, cond, eqb, ◌&&◌, not, List, [], ◌∷◌, ◌++◌, map, length, take, get_or, set, Option, Some, None, refl, sym, ap, ap₂, subst, ◌∙◌, arith, inl, inr}
-use Rattle.std.specs.List.{position, position_or_len, slice_get}
+use Rattle.std.proofs.Common.{◌≡◌, ℕ, ◌+◌, ◌<◌, ◌≤◌, Bool, true, false, cond, eqb, ◌&&◌, not, List, [], ◌∷◌, ◌++◌, length, take, get_or, set, Option, Some, None, refl, sym, ap, ap₂, subst, ◌∙◌, arith, inl, inr}
+use Rattle.std.specs.List.{position, position_or_len}
 use Rattle.std.specs.Option.{IsSome, is_some, option_or}
 use Rattle.std.proofs.lemmas.Bool.{cases_eq, eq-eqb, ne_eqb, false≢true}
-use Rattle.std.proofs.lemmas.List.{append-nil, get_or-set_same, get_or-set_other, length-set, take_more, map-append, length-take-le, get_or_read, take_all}
+use Rattle.std.proofs.lemmas.List.{append-nil, get_or-set_same, get_or-set_other, length-set, take_more, length-take-le, get_or_read, take_all}
 use Rattle.std.proofs.lemmas.List.FromFn.{get_or-map-range_with_len, length-map-range_with_len, fill_by_all}
-use Rattle.std.proofs.lemmas.Option.{get_or_from_slice_get, slice_get_within}
 use Rattle.obd_base.specs.Lists.{Mem}
 use Rattle.page_surface.specs.declared.page.SideLabel.{SideLabel}
 use Rattle.page_surface.specs.Joining.{Joined, side, is_side}
 use Rattle.page_surface.specs.Polygon.{Polygon}
 use Rattle.arc_basis.specs.Basis.{joined_sides, label_count}
 use Rattle.arc_basis.specs.BasisTables.{AreAllFound, AreBasisTables, of_sides, side_table}
-use Rattle.arc_basis.proofs.Places.{found_place, mem_at, place_push}
-
--- one item more of a list
-pub take_next : {X : Type 0} (xs : List X) (i : ℕ) (x : X) → slice_get xs i ≡ Some x → take (i + 1) xs ≡ take i xs ++ x ∷ []
-take_next xs i x e = take_more xs i x (slice_get_within xs i x e) ∙ ap (λ y. take i xs ++ y ∷ []) (get_or_from_slice_get xs i x x e)
-
--- what is made of one item more
-pub map_more : {X Y : Type 0} (f : X → Y) (xs : List X) (i : ℕ) (x : X) (ys zs : List Y) (y : Y) → i < length xs → x ≡ get_or xs i x
-    → ys ≡ map f (take i xs) → zs ≡ ys ++ y ∷ [] → y ≡ f x → zs ≡ map f (take (i + 1) xs)
-map_more f xs i x ys zs y l is so_far more new =
-    more ∙ (ap₂ (λ us u. us ++ u ∷ []) so_far (new ∙ ap f is) ∙ (sym (map-append f (take i xs) (get_or xs i x ∷ [])) ∙ ap (map f) (sym (take_more xs i x l))))
+use Rattle.arc_basis.proofs.Places.{found_place, place_push}
 
 -- or nothing
 or_none : {X : Type 0} (o : Option X) → option_or o None ≡ o
@@ -138,10 +127,6 @@ read_table sides firsts seconds count found label occurrence l o =
           let e : occurrence ≡ 1 = omega arith in
           rw (e, found.seconds_are) (get_or-map-range_with_len (λ k. position (is_side (side k 1)) sides) 0 count label label None l (omega arith))
     ]
-
--- what is read at a place is a member
-pub mem_read : {X : Type 0} (xs : List X) (i : ℕ) (x : X) → i < length xs → x ≡ get_or xs i x → Mem x xs
-mem_read xs i x l e = subst (λ y. Mem y xs) (sym e) (mem_at xs i x l)
 
 -- so it is there
 pub found_side : (sides : List SideLabel) (firsts seconds : List (Option ℕ)) (count : ℕ) → AreAllFound sides firsts seconds count

@@ -62,10 +62,12 @@ pub fn join(alloc: Global, page: &Page) -> Result<Basis, NoMemory>
 }
 
 impl Basis {
-    /// The polygon that is left, each side glued to the other side of its label. Constant time, as are the
-    /// calls below; all take no memory.
+    /// The polygon that is left, each side glued to the other side of its label. For now no label is a seam.
+    /// Constant time, as are the calls below; all take no memory.
     pub fn polygon(&self) -> &Polygon
-        ensures { result.now ≡ joined_polygon self.now }
+        ensures value { result.now ≡ joined_polygon self.now }
+        ensures one { length self.now.polygons ≡ 1 }
+        ensures no_seam { self.now.seams ≡ [] }
     {
         &self.polygon
     }
@@ -74,7 +76,6 @@ impl Basis {
     pub fn seams(&self) -> &[LabelNo]
         ensures value { result.now ≡ self.now.seams }
         ensures none { self.now.seams ≡ [] }
-        ensures one { length self.now.polygons ≡ 1 }
     {
         self.seams.as_slice()
     }

@@ -1,7 +1,22 @@
 //! Embedded curves on a page, the words that are read along them, and the action of a Dehn twist on words.
-//! The direction of a positive twist, to the right, and the form of the action are this project's own.
+//!
+//! A curve on a page is given by its crossings with labels, in order: the occurrence of the label through
+//! which it leaves, and the place of the point among the curve's own points of that label, from the start of
+//! occurrence 0. It enters through the other occurrence. Chord `i` runs from the entry of crossing `i` to the
+//! exit of crossing `i + 1`, read round. The direction of a positive twist, to the right, and the form of the
+//! action are this project's own.
 #![tactic(auto)]
 
+mod chords;
+mod copies;
+mod crossing;
 mod curve;
+mod joined;
+mod path;
+mod places;
+mod refusal;
 
+pub use copies::{copied_path, page_names};
 pub use curve::Curve;
+pub use path::{Cross, PageCurve};
+pub use refusal::CurveRefusal;

@@ -3,38 +3,49 @@ use Rattle.std.proofs.Common.{◌≡◌, ℕ, ◌≤◌, List, ◌++◌, length,
 use Rattle.std.specs.Io.KnownBytes.{Consumes, Appends, IsAtEnd}
 use Rattle.std.proofs.lemmas.Bool.{lt-ltb, le-ltb}
 use Rattle.std.proofs.lemmas.List.{append-nil}
-use Rattle.page_surface.specs.Labels.{Label}
-use Rattle.obd_cli.specs.Run.{AnswersBook, Certifies, Decided, IsFault, Owes, Told, book_of, status_owed, has_text}
+use Rattle.std.specs.Option.{option_map_or}
+use Rattle.obd_doc.specs.Document.{book_read, refusal_of}
+use Rattle.obd_doc.specs.declared.book.Book.{Book}
+use Rattle.obd_doc.specs.declared.refusal.DocRefusal.{DocRefusal}
+use Rattle.obd_cli.specs.Run.{AnswersBuilt, AnswersDoc, Certifies, Decided, IsFault, Owes, Told, book_status, has_text, not_built, status_owed}
+use Rattle.obd_cli.specs.declared.status.Command.{Command}
+use Rattle.obd_cli.specs.declared.status.Command.TheVariants as command
 use Rattle.obd_cli.specs.declared.status.Answer.{Answer}
 use Rattle.obd_cli.specs.declared.status.Status.{Status}
 use Rattle.obd_cli.specs.declared.status.Status.TheVariants as status
 use Rattle.obd_cli.specs.declared.top.TheConstants.{DOCUMENT_LIMIT}
 
--- the answer to a book is its certificate
-certified : (book : Option (List (List Label))) (answer : Answer) → AnswersBook book answer → answer.status ≡ status.Done
-    → (page : List (List Label)) × (book ≡ Some page) × Certifies page answer
-certified (Some page) answer answers done = (page, refl, answers)
-certified None answer answers done = absurd (let bad = sym done ∙ ap (λ (a : Answer). a.status) answers in cc)
+-- the answer to a book with Done is its certificate
+built_done : (command : Command) (book : Book) (what : Option (List ℕ)) (answer : Answer) → AnswersBuilt command book what answer → answer.status ≡ status.Done → Certifies book answer
+built_done command book (Some what) answer answers done = absurd (let bad = sym done ∙ ap (λ (a : Answer). a.status) answers in cc)
+built_done command.Decide book None answer answers done = answers
 
-by_owed : (command : Bool) (left now_left written now_written : Option (List ℕ)) (answer : Answer) → Owes command left now_left answer
+-- and so is the answer to a document
+doc_done : (command : Command) (refusal : Option DocRefusal) (book : Option Book) (answer : Answer) → AnswersDoc command refusal book answer → answer.status ≡ status.Done
+    → (b : Book) × (book ≡ Some b) × Certifies b answer
+doc_done command (Some refusal) book answer answers done = absurd (let bad = sym done ∙ ap (λ (a : Answer). a.status) answers in cc)
+doc_done command None (Some book) answer answers done = (book, refl, built_done command book (not_built command book) answer answers done)
+doc_done command None None answer answers done = absurd answers
+
+by_owed : (command : Option Command) (left now_left written now_written : Option (List ℕ)) (answer : Answer) → Owes command left now_left answer
     → answer.status ≡ status.Done → Appends written now_written answer.text → Decided left now_left written now_written
-by_owed false left now_left written now_written answer owed done wrote = absurd (let bad = sym done ∙ ap (λ (a : Answer). a.status) owed in cc)
-by_owed true left now_left written now_written answer (inl all) done wrote =
-    let (page, book, certifies) = certified (book_of all.bytes) answer all.answers done in
+by_owed None left now_left written now_written answer owed done wrote = absurd (let bad = sym done ∙ ap (λ (a : Answer). a.status) owed in cc)
+by_owed (Some command) left now_left written now_written answer (inl all) done wrote =
+    let (book, read, certifies) = doc_done command (refusal_of all.bytes) (book_read all.bytes) answer all.answers done in
     record {
       bytes = all.bytes;
       gave = all.gave;
       ended = all.ended;
-      page = page;
       book = book;
+      read = read;
       certificate = certifies.certificate;
       belongs = certifies.belongs;
       wrote = subst (Appends written now_written) certifies.text wrote;
     }
-by_owed true left now_left written now_written answer (inr long) done wrote = absurd (let bad = sym done ∙ ap (λ (a : Answer). a.status) long.answers in cc)
+by_owed (Some command) left now_left written now_written answer (inr long) done wrote = absurd (let bad = sym done ∙ ap (λ (a : Answer). a.status) long.answers in cc)
 
 -- what was told with Done is decided
-pub decided_from_told : (command : Bool) (left now_left written now_written : Option (List ℕ)) (result : Status) → result ≡ status.Done
+pub decided_from_told : (command : Option Command) (left now_left written now_written : Option (List ℕ)) (result : Status) → result ≡ status.Done
     → Told command left now_left written now_written result → Decided left now_left written now_written
 decided_from_told command left now_left written now_written result done told = by_owed command left now_left written now_written told.answer told.owed (told.same ∙ done) told.wrote
 
@@ -49,25 +60,58 @@ as_many bytes gave None consumes = absurd consumes
 as_many bytes gave (Some rest) consumes = omega (arith, ap length consumes, length-append gave rest)
 
 -- the status of the answer to a book
-book_status : (book : Option (List (List Label))) (answer : Answer) → AnswersBook book answer → answer.status ≡ cond (is_some book) status.Done status.Refused
-book_status (Some page) answer answers = answers.done
-book_status None answer answers = ap (λ (a : Answer). a.status) answers
+built_status : (command : Command) (book : Book) (what : Option (List ℕ)) (answer : Answer) → AnswersBuilt command book what answer → answer.status ≡ book_status what
+built_status command book (Some what) answer answers = ap (λ (a : Answer). a.status) answers
+built_status command.Decide book None answer answers = answers.done
+
+-- where a rule fails there is no book
+no_book : (bytes : List ℕ) (refusal : DocRefusal) → refusal_of bytes ≡ Some refusal → book_read bytes ≡ None
+no_book bytes refusal is = rw is refl
+
+doc_status : (command : Command) (bytes : List ℕ) (refusal : Option DocRefusal) (book : Option Book) (answer : Answer) → refusal_of bytes ≡ refusal → book_read bytes ≡ book
+    → AnswersDoc command refusal book answer → answer.status ≡ option_map_or (λ b. book_status (not_built command b)) book status.Refused
+doc_status command bytes (Some refusal) (Some book) answer is read answers = absurd (let bad = sym read ∙ no_book bytes refusal is in cc)
+doc_status command bytes (Some refusal) None answer is read answers = ap (λ (a : Answer). a.status) answers
+doc_status command bytes None (Some book) answer is read answers = built_status command book (not_built command book) answer answers
+doc_status command bytes None None answer is read answers = absurd answers
 
 -- what is owed for bytes that are told has the status that is owed
-owed_status : (bytes : List ℕ) (now_left : Option (List ℕ)) (answer : Answer) → Owes true (Some bytes) now_left answer → answer.status ≡ status_owed bytes
-owed_status bytes now_left answer (inl all) =
+owed_status : (command : Command) (bytes : List ℕ) (now_left : Option (List ℕ)) (answer : Answer) → Owes (Some command) (Some bytes) now_left answer → answer.status ≡ status_owed command bytes
+owed_status command bytes now_left answer (inl all) =
     let same = all_given bytes all.bytes now_left all.gave all.ended in
     let within : ltb DOCUMENT_LIMIT (length bytes) ≡ false = le-ltb DOCUMENT_LIMIT (length bytes) (omega (arith, all.within, ap length same)) in
-    rw within (subst (λ bs. answer.status ≡ cond (is_some (book_of bs)) status.Done status.Refused) same (book_status (book_of all.bytes) answer all.answers))
-owed_status bytes now_left answer (inr long) =
+    let by_bytes = doc_status command all.bytes (refusal_of all.bytes) (book_read all.bytes) answer refl refl all.answers in
+    rw within (by_bytes ∙ ap (λ bs. option_map_or (λ b. book_status (not_built command b)) (book_read bs) status.Refused) same)
+owed_status command bytes now_left answer (inr long) =
     let above : ltb DOCUMENT_LIMIT (length bytes) ≡ true = lt-ltb DOCUMENT_LIMIT (length bytes) (omega (arith, long.size, as_many bytes long.bytes now_left long.gave)) in
     rw above (ap (λ (a : Answer). a.status) long.answers)
 
 -- a run over a source that tells its bytes ends with the status that is owed, or a fault
-pub completed : (bytes : List ℕ) (command : Bool) (left now_left written now_written : Option (List ℕ)) (result : Status)
-    → command ≡ true → left ≡ Some bytes → (has_text result ≡ true → Told command left now_left written now_written result)
-    → (has_text result ≡ true) ⊎ IsFault result → (result ≡ status_owed bytes) ⊎ IsFault result
-completed bytes command left now_left written now_written result is tells told (inr fault) = inr fault
-completed bytes command left now_left written now_written result is tells told (inl text) =
+pub completed : (bytes : List ℕ) (which : Command) (command : Option Command) (left now_left written now_written : Option (List ℕ)) (result : Status)
+    → command ≡ Some which → left ≡ Some bytes → (has_text result ≡ true → Told command left now_left written now_written result)
+    → (has_text result ≡ true) ⊎ IsFault result → (result ≡ status_owed which bytes) ⊎ IsFault result
+completed bytes which command left now_left written now_written result is tells told (inr fault) = inr fault
+completed bytes which command left now_left written now_written result is tells told (inl text) =
     let wrote = told text in
-    inl (sym wrote.same ∙ owed_status bytes now_left wrote.answer (subst (λ c. Owes c (Some bytes) now_left wrote.answer) is (subst (λ l. Owes command l now_left wrote.answer) tells wrote.owed)))
+    inl (sym wrote.same ∙ owed_status which bytes now_left wrote.answer (subst (λ c. Owes c (Some bytes) now_left wrote.answer) is (subst (λ l. Owes command l now_left wrote.answer) tells wrote.owed)))
+
+-- the status of an answer to a book, or to none, isn't Usage
+book_no_usage : (what : Option (List ℕ)) → book_status what ≡ status.Usage → ⊥
+book_no_usage (Some what) is = let bad = is in cc
+book_no_usage None is = let bad = is in cc
+
+status_no_usage : (command : Command) (book : Option Book) → option_map_or (λ b. book_status (not_built command b)) book status.Refused ≡ status.Usage → ⊥
+status_no_usage command (Some book) is = book_no_usage (not_built command book) is
+status_no_usage command None is = let bad = is in cc
+
+-- a command's answer isn't the usage line
+command_no_usage : (command : Command) (left now_left : Option (List ℕ)) (answer : Answer) → Owes (Some command) left now_left answer → answer.status ≡ status.Usage → ⊥
+command_no_usage command left now_left answer (inl all) is =
+    status_no_usage command (book_read all.bytes) (sym (doc_status command all.bytes (refusal_of all.bytes) (book_read all.bytes) answer refl refl all.answers) ∙ is)
+command_no_usage command left now_left answer (inr long) is = let bad = sym (ap (λ (a : Answer). a.status) long.answers) ∙ is in cc
+
+-- so Usage is told for words that are no command
+pub usage_told : (command : Option Command) (left now_left written now_written : Option (List ℕ)) (result : Status) → result ≡ status.Usage
+    → Told command left now_left written now_written result → command ≡ None
+usage_told None left now_left written now_written result is told = refl
+usage_told (Some command) left now_left written now_written result is told = absurd (command_no_usage command left now_left told.answer told.owed (told.same ∙ is))

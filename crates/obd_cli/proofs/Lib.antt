@@ -1,3 +1,4 @@
+mod Built
 mod Collected
 mod Listed
 mod Decides

@@ -9,6 +9,10 @@ use Rattle.page_surface.specs.Polygon.{IsPolygon, Polygon, arc, arc_count, sides
 use Rattle.drawing.specs.Points.{contact_generator, generators}
 use Rattle.hkm_diagram.specs.Domains.{columns}
 use Rattle.mod2_rank.specs.Linear.{IsOutcome, IsRank, Verdict as Found, chain, column_at, functional}
+use Rattle.obd_doc.specs.declared.book.Book.{Book}
+use Rattle.obd_doc.specs.declared.book.NamedCurve.{NamedCurve}
+use Rattle.obd_doc.specs.declared.entries.NamedPath.{NamedPath}
+use Rattle.obd_doc.specs.declared.entries.NamedTwist.{NamedTwist}
 use Rattle.obd_cli.specs.declared.certificate.Certificate.{Certificate}
 use Rattle.obd_cli.specs.declared.certificate.Pivot.{Pivot}
 use Rattle.obd_cli.specs.declared.certificate.Verdict.{Verdict}
@@ -31,6 +35,14 @@ book_columns page = columns (first_drawing page)
 -- the numbers of the contact points
 abbrev pub contact_numbers : List (List Label) → List ℕ
 contact_numbers page = contact_generator (first_drawing page)
+
+-- the book's curves by name and crossings
+abbrev pub paths_of : List NamedCurve → List NamedPath
+paths_of curves = map (λ curve. record { name = curve.name; path = curve.path }) curves
+
+-- the twist word by the names of the curves
+abbrev pub named_twists : Book → List NamedTwist
+named_twists book = map (λ twist. record { name = slice_index_or (map (λ curve. curve.name) book.curves) twist.curve []; power = twist.power }) book.twists
 
 -- the names of some labels
 abbrev pub names_of : List (List Label) → List ℕ → List Label
@@ -65,37 +77,37 @@ pub record IsComplexOf (d : Drawing) (complex : Complex) : Type 0 where
   pub concludes : IsOutcomeOf (columns d) complex.outcome
   pub rank : complex.outcome.rank ≤ complex.generators
 
--- every line is that of the page without curves and twists
-pub record BelongsTo (page : List (List Label)) (c : Certificate) : Type 0 where
+-- every line is that of the book, which has no slide and no twist
+pub record BelongsTo (book : Book) (c : Certificate) : Type 0 where
   pub version : c.version ≡ 1
-  -- the page's polygons; no curve, no slide and no twist
-  pub polygons : c.polygons ≡ page
-  pub curves : c.curves ≡ []
-  pub slides : c.slides ≡ []
-  pub twists : c.twists ≡ []
+  -- the book's polygons, curves, slides and twists
+  pub polygons : c.polygons ≡ book.page
+  pub curves : c.curves ≡ paths_of book.curves
+  pub slides : c.slides ≡ book.slides
+  pub twists : c.twists ≡ named_twists book
   -- the seams, and for each side of the joined polygon its arc
-  pub seams : c.seams ≡ seam_names page
-  pub basis : c.basis ≡ map (arc (page_polygon page)) (below (sides (page_polygon page)))
+  pub seams : c.seams ≡ seam_names book.page
+  pub basis : c.basis ≡ map (arc (page_polygon book.page)) (below (sides (page_polygon book.page)))
   -- the first drawing, which is nice and needs no finger
-  pub strands : c.strands ≡ (first_drawing page).strands
+  pub strands : c.strands ≡ (first_drawing book.page).strands
   pub fingers : c.fingers ≡ []
-  pub finals : c.finals ≡ (first_drawing page).strands
+  pub finals : c.finals ≡ (first_drawing book.page).strands
   -- the number of generators, and the contact generator, which comes last
-  pub generators : c.generators ≡ length (book_generators page)
-  pub points : c.points ≡ contact_numbers page
-  pub contact : slice_get (book_generators page) c.contact ≡ Some c.points
+  pub generators : c.generators ≡ length (book_generators book.page)
+  pub points : c.points ≡ contact_numbers book.page
+  pub contact : slice_get (book_generators book.page) c.contact ≡ Some c.points
   pub contact_last : c.contact + 1 ≡ c.generators
-  pub contact_column : column_at (book_columns page) c.contact ≡ []
+  pub contact_column : column_at (book_columns book.page) c.contact ≡ []
   -- what the elimination finds, and the number that is left
-  pub concludes : Concludes (book_columns page) c.pivots c.rank c.verdict
+  pub concludes : Concludes (book_columns book.page) c.pivots c.rank c.verdict
   pub homology : c.homology ≡ pos c.generators -ℤ pos (2 * c.rank)
 
--- every field is made from the page, the numbers of its seams, its polygon and that polygon's identity drawing
-pub record IsMade (page : List (List Label)) (seams : List ℕ) (polygon : Polygon) (c : Certificate) : Type 0 where
+-- every field is made from the page, the curves, the numbers of the seams, its polygon and that polygon's identity drawing
+pub record IsMade (page : List (List Label)) (curves : List NamedPath) (seams : List ℕ) (polygon : Polygon) (c : Certificate) : Type 0 where
   pub valid : IsPolygon polygon
   pub version : c.version ≡ 1
   pub polygons : c.polygons ≡ page
-  pub curves : c.curves ≡ []
+  pub curves_are : c.curves ≡ curves
   pub slides : c.slides ≡ []
   pub twists : c.twists ≡ []
   pub seams_are : c.seams ≡ names_of page seams

@@ -1,4 +1,5 @@
 pub mod Belongs
 pub mod Line
+pub mod Refused
 pub mod Run
 pub mod Text

@@ -1,57 +1,84 @@
 -- What a run owes.
-use Rattle.std.specs.Prelude.{◌≡◌, ◌⊎◌, ℕ, ◌+◌, ◌≤◌, List, [], ◌∷◌, length, codes, Bool, true, false, nat_lt, if◌then◌else◌, is_some, Option, Some, None}
+use Rattle.std.specs.Prelude.{◌≡◌, ◌⊎◌, ℕ, ◌+◌, ◌≤◌, List, [], ◌∷◌, length, codes, Bool, true, false, not, ◌&&◌, nat_eq, nat_lt, if◌then◌else◌, Option, Some, None}
+use Rattle.std.specs.Option.{option_map_or}
 use Rattle.std.specs.Str.{bytes_eq}
 use Rattle.std.specs.Io.KnownBytes.{Consumes, Appends, IsAtEnd}
 use Rattle.obd_base.specs.Streams.{TookPrefix}
-use Rattle.page_surface.specs.Labels.{Label}
-use Rattle.obd_doc.specs.Plain.{plain_book}
+use Rattle.obd_doc.specs.Document.{book_read, refusal_of}
+use Rattle.obd_doc.specs.declared.book.Book.{Book}
+use Rattle.obd_doc.specs.declared.refusal.DocRefusal.{DocRefusal}
 use Rattle.obd_cli.specs.Belongs.{BelongsTo}
+use Rattle.obd_cli.specs.Refused.{doc_line, refused_line}
 use Rattle.obd_cli.specs.Text.{certificate_text}
 use Rattle.obd_cli.specs.declared.certificate.Certificate.{Certificate}
 use Rattle.obd_cli.specs.declared.status.Answer.{Answer}
+use Rattle.obd_cli.specs.declared.status.Command.{Command}
+use Rattle.obd_cli.specs.declared.status.Command.TheVariants as command
 use Rattle.obd_cli.specs.declared.status.Status.{Status}
 use Rattle.obd_cli.specs.declared.status.Status.TheVariants as status
 use Rattle.obd_cli.specs.declared.top.TheConstants.{DOCUMENT_LIMIT}
 
--- the words are the one command
-abbrev pub is_command : List (List ℕ) → Bool
-is_command (word ∷ []) = bytes_eq word (codes "decide")
-is_command [] = false
-is_command (word ∷ next ∷ words) = false
+-- the command that the words are, if they are one
+abbrev pub command_of : List (List ℕ) → Option Command
+command_of (word ∷ []) = if bytes_eq word (codes "decide") then Some command.Decide else None
+command_of [] = None
+command_of (word ∷ next ∷ words) = None
 
--- the page of the book that the bytes are: a plain book
-abbrev pub book_of : List ℕ → Option (List (List Label))
-book_of bytes = plain_book bytes
-
--- the answers that aren't a certificate
+-- the usage line
 abbrev pub usage : Answer
 usage = record { status = status.Usage; text = codes "usage: obd decide | page | check | sample SEED TWISTS\n" }
 
+-- a refusal with its line
+abbrev pub refused_with : List ℕ → Answer
+refused_with text = record { status = status.Refused; text = text }
+
 abbrev pub too_long : Answer
-too_long = record { status = status.Refused; text = codes "refused 1 InputLong 1048576\n" }
+too_long = refused_with (refused_line 1 (codes "InputLong") [] (DOCUMENT_LIMIT ∷ []))
 
-abbrev pub not_built : Answer
-not_built = record { status = status.Refused; text = codes "refused 90 NotBuilt document\n" }
+-- what `decide` doesn't take
+abbrev pub not_decided : Command → Book → Option (List ℕ)
+not_decided command.Decide book =
+    if not (nat_eq book.limits.moves 20000 && nat_eq book.limits.generators 20000) then Some (codes "limits") else
+    if nat_lt 0 (length book.twists) then Some (codes "twists") else None
 
--- the answer is the text of a certificate that belongs to the page
-pub record Certifies (page : List (List Label)) (answer : Answer) : Type 0 where
+-- what of a book a command doesn't take yet
+abbrev pub not_built : Command → Book → Option (List ℕ)
+not_built command book =
+    if nat_lt 1 (length book.page) then Some (codes "polygons") else
+    if nat_lt 0 (length book.slides) then Some (codes "slides") else not_decided command book
+
+-- the answer is the text of a certificate that belongs to the book
+pub record Certifies (book : Book) (answer : Answer) : Type 0 where
   pub done : answer.status ≡ status.Done
   pub certificate : Certificate
-  pub belongs : BelongsTo page certificate
+  pub belongs : BelongsTo book certificate
   pub text : answer.text ≡ certificate_text certificate
 
--- the answer to a book, or to what is none
-abbrev pub AnswersBook : Option (List (List Label)) → Answer → Type 0
-AnswersBook (Some page) answer = Certifies page answer
-AnswersBook None answer = answer ≡ not_built
+-- the answer to a book
+abbrev pub AnswersBuilt : Command → Book → Option (List ℕ) → Answer → Type 0
+AnswersBuilt command book (Some what) answer = answer ≡ refused_with (refused_line 90 (codes "NotBuilt") (what ∷ []) [])
+AnswersBuilt command.Decide book None answer = Certifies book answer
+
+abbrev pub AnswersBook : Command → Book → Answer → Type 0
+AnswersBook command book answer = AnswersBuilt command book (not_built command book) answer
+
+-- the answer to a document, by the first rule that fails and by the book
+abbrev pub AnswersDoc : Command → Option DocRefusal → Option Book → Answer → Type 0
+AnswersDoc command (Some refusal) book answer = answer ≡ refused_with (doc_line refusal)
+AnswersDoc command None (Some book) answer = AnswersBook command book answer
+AnswersDoc command None None answer = ⊥
+
+-- the answer to bytes
+abbrev pub AnswersBytes : Command → List ℕ → Answer → Type 0
+AnswersBytes command bytes answer = AnswersDoc command (refusal_of bytes) (book_read bytes) answer
 
 -- the source gave all its bytes, within the limit, and this is the answer to them
-pub record AnswersAll (left now_left : Option (List ℕ)) (answer : Answer) : Type 0 where
+pub record AnswersAll (command : Command) (left now_left : Option (List ℕ)) (answer : Answer) : Type 0 where
   pub bytes : List ℕ
   pub gave : Consumes left now_left bytes
   pub ended : IsAtEnd now_left
   pub within : length bytes ≤ DOCUMENT_LIMIT
-  pub answers : AnswersBook (book_of bytes) answer
+  pub answers : AnswersBytes command bytes answer
 
 -- one byte more than the limit was read
 pub record AnswersLong (left now_left : Option (List ℕ)) (answer : Answer) : Type 0 where
@@ -61,19 +88,19 @@ pub record AnswersLong (left now_left : Option (List ℕ)) (answer : Answer) : T
   pub answers : answer ≡ too_long
 
 -- what is owed: the usage line for words that are no command, else the answer to what was read
-abbrev pub Owes : Bool → Option (List ℕ) → Option (List ℕ) → Answer → Type 0
-Owes false left now_left answer = answer ≡ usage
-Owes true left now_left answer = AnswersAll left now_left answer ⊎ AnswersLong left now_left answer
+abbrev pub Owes : Option Command → Option (List ℕ) → Option (List ℕ) → Answer → Type 0
+Owes None left now_left answer = answer ≡ usage
+Owes (Some command) left now_left answer = AnswersAll command left now_left answer ⊎ AnswersLong left now_left answer
 
 -- the text that is owed was written, and the status is the one that goes with it
-pub record Told (command : Bool) (left now_left written now_written : Option (List ℕ)) (status : Status) : Type 0 where
+pub record Told (command : Option Command) (left now_left written now_written : Option (List ℕ)) (status : Status) : Type 0 where
   pub answer : Answer
   pub same : answer.status ≡ status
   pub owed : Owes command left now_left answer
   pub wrote : Appends written now_written answer.text
 
 -- a prefix of the text that is owed was written
-pub record CutShort (command : Bool) (left now_left written now_written : Option (List ℕ)) : Type 0 where
+pub record CutShort (command : Option Command) (left now_left written now_written : Option (List ℕ)) : Type 0 where
   pub answer : Answer
   pub owed : Owes command left now_left answer
   pub wrote : TookPrefix written now_written answer.text
@@ -83,10 +110,10 @@ pub record Decided (left now_left written now_written : Option (List ℕ)) : Typ
   pub bytes : List ℕ
   pub gave : Consumes left now_left bytes
   pub ended : IsAtEnd now_left
-  pub page : List (List Label)
-  pub book : book_of bytes ≡ Some page
+  pub book : Book
+  pub read : book_read bytes ≡ Some book
   pub certificate : Certificate
-  pub belongs : BelongsTo page certificate
+  pub belongs : BelongsTo book certificate
   pub wrote : Appends written now_written (certificate_text certificate)
 
 -- a status with a text of its own that a run ends with today
@@ -105,6 +132,12 @@ has_text status.NoMemory = false
 abbrev pub IsFault : Status → Type 0
 IsFault result = (result ≡ status.ReadFault) ⊎ (result ≡ status.WriteFault) ⊎ (result ≡ status.NoMemory)
 
+-- the status of the answer to a book
+abbrev pub book_status : Option (List ℕ) → Status
+book_status (Some what) = status.Refused
+book_status None = status.Done
+
 -- the status of the answer to these bytes
-abbrev pub status_owed : List ℕ → Status
-status_owed bytes = if nat_lt DOCUMENT_LIMIT (length bytes) then status.Refused else (if is_some (book_of bytes) then status.Done else status.Refused)
+abbrev pub status_owed : Command → List ℕ → Status
+status_owed command bytes =
+    if nat_lt DOCUMENT_LIMIT (length bytes) then status.Refused else option_map_or (λ book. book_status (not_built command book)) (book_read bytes) status.Refused

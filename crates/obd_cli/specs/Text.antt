@@ -2,13 +2,13 @@
 use Rattle.std.specs.Prelude.{ℕ, List, [], ◌∷◌, ◌++◌, codes, decimal, length, map}
 use Rattle.std.specs.Fmt.{signed_decimal}
 use Rattle.std.specs.List.{enumerate_from}
+use Rattle.curve_paths.specs.declared.path.Cross.{Cross}
 use Rattle.obd_base.specs.declared.points.Exit.{Exit}
 use Rattle.obd_cli.specs.Line.{exit_text, line, lines, listed}
 use Rattle.obd_cli.specs.declared.certificate.Certificate.{Certificate}
-use Rattle.obd_cli.specs.declared.certificate.Cross.{Cross}
 use Rattle.obd_cli.specs.declared.certificate.Finger.{Finger}
-use Rattle.obd_cli.specs.declared.certificate.NamedPath.{NamedPath}
-use Rattle.obd_cli.specs.declared.certificate.NamedTwist.{NamedTwist}
+use Rattle.obd_doc.specs.declared.entries.NamedPath.{NamedPath}
+use Rattle.obd_doc.specs.declared.entries.NamedTwist.{NamedTwist}
 use Rattle.obd_cli.specs.declared.certificate.Pivot.{Pivot}
 use Rattle.obd_cli.specs.declared.certificate.Verdict.{Verdict}
 use Rattle.obd_cli.specs.declared.certificate.Verdict.TheVariants.{Chain, Functional}

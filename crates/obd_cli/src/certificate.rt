@@ -7,31 +7,10 @@ ghost use Rattle.obd_cli.specs.Text.{certificate_text, cross_text, drawing_text,
 use crate::line::{
     Entry, Word, put_count, put_line, put_list, put_number, put_numbered, put_signed, put_words,
 };
+use curve_paths::Cross;
 use obd_base::{ArcNo, Exit, GenNo, Items, Name, NoMemory, SideNo, StrandNo, Text};
+use obd_doc::{NamedPath, NamedTwist};
 use std::alloc::Global;
-
-/// One crossing of a curve with a label: the occurrence through which the curve leaves, and the place among
-/// the curve's own points of the label, from the start of occurrence 0.
-#[derive(Drop)]
-pub struct Cross {
-    pub label: Name,
-    pub occurrence: u8,
-    pub place: u32,
-}
-
-/// A curve by its name and its crossings in order.
-#[derive(Drop)]
-pub struct NamedPath {
-    pub name: Name,
-    pub path: Items<Cross>,
-}
-
-/// An entry of the twist word: a curve by its name, and the power, which isn't 0.
-#[derive(Drop)]
-pub struct NamedTwist {
-    pub name: Name,
-    pub power: i32,
-}
 
 /// A finger move: the chord of a strand that is pushed, and the segment of a side into which it goes.
 #[derive(Clone, Copy, Debug, PartialEq, Eq)]

@@ -6,38 +6,30 @@ ghost use Rattle.page_surface.specs.Polygon.{arc, arc_count, sides};
 ghost use Rattle.obd_base.specs.Lists.{below};
 ghost use Rattle.page_surface.specs.Drawing.{strand_exits};
 ghost use Rattle.drawing.specs.Points.{crossings_of};
-ghost use Rattle.obd_cli.specs.Belongs.{BelongsTo, IsMade, names_of};
+ghost use Rattle.obd_cli.specs.Belongs.{BelongsTo, IsMade, names_of, paths_of};
 
 use crate::certificate::Certificate;
 use crate::complex::{Complex, complex_of};
 use arc_basis::join;
+use curve_paths::{copied_path, page_names};
 use hkm_diagram::{Diagram, first};
 use obd_base::{ArcNo, Exit, GenNo, Items, LabelNo, Name, NoMemory, SideNo, StrandNo};
+use obd_doc::{Book, NamedCurve, NamedPath};
 use page_surface::{Page, Polygon};
 use std::alloc::Global;
 
-// The labels of a polygon of the page, as names of their own.
-fn polygon_labels(alloc: Global, page: &Page, polygon: u32) -> Result<Items<Name>, NoMemory>
-    requires { polygon < length page.now }
-    ensures { IfOk result (λ labels. labels ≡ slice_index_or page.now polygon []) }
+// The curves of a book by name and crossings.
+fn named_paths(alloc: Global, curves: &[NamedCurve]) -> Result<Items<NamedPath>, NoMemory>
+    ensures { IfOk result (λ paths. paths ≡ paths_of curves.now) }
 {
-    let mut labels = Items::new(alloc);
-    for side in 0..page.sides_of(polygon) {
-        let label = page.label_at(polygon, side).label;
-        labels.push(Name::from_str(alloc, page.name(label))?)?;
+    let mut paths = Items::new(alloc);
+    for curve in curves {
+        paths.push(NamedPath {
+            name: Name::from_str(alloc, curve.name.as_str())?,
+            path: copied_path(alloc, curve.path.as_slice())?,
+        })?;
     }
-    Ok(labels)
-}
-
-// The polygons of the page.
-fn page_labels(alloc: Global, page: &Page) -> Result<Items<Items<Name>>, NoMemory>
-    ensures { IfOk result (λ polygons. polygons ≡ page.now) }
-{
-    let mut polygons = Items::new(alloc);
-    for polygon in 0..page.polygon_count() {
-        polygons.push(polygon_labels(alloc, page, polygon)?)?;
-    }
-    Ok(polygons)
+    Ok(paths)
 }
 
 // The arc of each side.
@@ -104,16 +96,17 @@ fn homology(generators: u32, rank: u32) -> i32
     generators as i32 - 2 * rank as i32
 }
 
-// The certificate of a page with these seams and this joined polygon, with no curve and no twist: the first drawing
-// is the identity drawing, which is nice.
+// The certificate of a page with these curves, seams and joined polygon, and no twist: the first drawing is the
+// identity drawing, which is nice.
 fn identity_certificate(
     alloc: Global,
     page: &Page,
+    curves: Items<NamedPath>,
     seams: &[LabelNo],
     polygon: &Polygon,
 ) -> Result<Certificate, NoMemory>
     requires { All (λ label. label < length (labels_of page.now)) seams.now }
-    ensures { IfOk result (IsMade page.now seams.now polygon.now) }
+    ensures { IfOk result (IsMade page.now curves seams.now polygon.now) }
 {
     let arcs = polygon.sides() / 2;
     let diagram = first(alloc, polygon)?;
@@ -124,8 +117,8 @@ fn identity_certificate(
     let homology = homology(generators, outcome.rank);
     Ok(Certificate {
         version: 1,
-        polygons: page_labels(alloc, page)?,
-        curves: Items::new(alloc),
+        polygons: page_names(alloc, page)?,
+        curves,
         slides: Items::new(alloc),
         twists: Items::new(alloc),
         seams: label_names(alloc, page, seams)?,
@@ -143,14 +136,18 @@ fn identity_certificate(
     })
 }
 
-/// The certificate of a page of one polygon, with no curve and no twist. A strand crosses its own arc once and no
-/// other arc, so with `n` arcs there are `2^n` generators, at most 256. The two bigons from a crossing point to the
-/// contact point cancel: each column is empty, and the contact generator alone is a functional. Linear in the
-/// generators and in the text that they make.
-pub(crate) fn certify(alloc: Global, page: &Page) -> Result<Certificate, NoMemory>
-    requires { length page.now ≡ 1 }
-    ensures { IfOk result (BelongsTo page.now) }
+/// The certificate of a book with one polygon, no slide and no twist. A strand crosses its own arc once and no other
+/// arc, so with `n` arcs there are `2^n` generators, at most 256. The two bigons from a crossing point to the contact
+/// point cancel: each column is empty, and the contact generator alone is a functional. Linear in the generators and
+/// in the text that they make.
+pub(crate) fn certify(alloc: Global, book: &Book) -> Result<Certificate, NoMemory>
+    requires one { length book.now.page ≡ 1 }
+    requires slides { book.now.slides ≡ [] }
+    requires twists { book.now.twists ≡ [] }
+    ensures { IfOk result (BelongsTo book.now) }
 {
+    let page = &book.page;
     let joined = join(alloc, page)?;
-    identity_certificate(alloc, page, joined.seams(), joined.polygon())
+    let curves = named_paths(alloc, book.curves.as_slice())?;
+    identity_certificate(alloc, page, curves, joined.seams(), joined.polygon())
 }

@@ -8,9 +8,11 @@ mod certificate;
 mod complex;
 mod identity;
 mod line;
+mod refused;
 mod status;
 mod top;
 
-pub use certificate::{Certificate, Cross, Finger, NamedPath, NamedTwist, Pivot, Verdict};
+pub use certificate::{Certificate, Finger, Pivot, Verdict};
+pub use curve_paths::Cross;
 pub use status::Status;
 pub use top::{DOCUMENT_LIMIT, run};

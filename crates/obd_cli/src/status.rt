@@ -1,8 +1,8 @@
-// How a run ends.
+// The commands of a run, and how it ends.
 
 use obd_base::Text;
 
-/// How a run ends. The numbers are the program's exit codes.
+/// The commands of a run, and how it ends. The numbers are the program's exit codes.
 #[derive(Clone, Copy, Debug, PartialEq, Eq)]
 pub enum Status {
     /// 0: what the command owes was written.
@@ -23,6 +23,13 @@ pub enum Status {
     MoveBudget,
     /// 8: memory was wanting.
     NoMemory,
+}
+
+/// A command of the program.
+#[derive(Clone, Copy, Debug, PartialEq, Eq)]
+pub(crate) enum Command {
+    /// Writes the certificate of the book that was read.
+    Decide,
 }
 
 /// A status with the text that goes with it.

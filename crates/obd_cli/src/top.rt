@@ -1,16 +1,19 @@
 // Words and bytes in, a status and a text out.
-ghost use Rattle.std.specs.Prelude.{◌≡◌, ◌≢◌, ◌⊎◌, ◌≤◌, List, ℕ, length, true, false, map, string_bytes, Some, option_and_then, IfOk, OnOk, IfErr, MatchResult};
+ghost use Rattle.std.specs.Prelude.{◌≡◌, ◌≢◌, ◌⊎◌, ◌<◌, ◌≤◌, ◌^◌, ◌∷◌, [], List, ℕ, length, codes, true, false, map, string_bytes, None, Some, option_map, IfOk, OnOk, IfErr, MatchResult};
 ghost use Rattle.std.specs.Io.KnownBytes.{Appends};
 ghost use Rattle.obd_base.specs.Causes.{Rose};
 ghost use Rattle.obd_base.specs.Streams.{TookPrefix};
-ghost use Rattle.obd_cli.specs.Run.{AnswersAll, AnswersBook, AnswersLong, Certifies, CutShort, Decided, IsFault, Owes, Told, book_of, has_text, is_command, status_owed, usage};
+ghost use Rattle.obd_doc.specs.Document.{IsBook};
+ghost use Rattle.obd_cli.specs.Refused.{doc_line, refused_line};
+ghost use Rattle.obd_cli.specs.Run.{AnswersAll, AnswersBook, AnswersBytes, AnswersLong, Certifies, CutShort, Decided, IsFault, Owes, Told, command_of, has_text, not_built, not_decided, refused_with, status_owed, too_long, usage};
+ghost use Rattle.obd_cli.specs.declared.status.Command.{Command as Which};
 
 use crate::certificate::print;
 use crate::identity::certify;
-use crate::status::{Answer, Status};
+use crate::refused::{put_doc_refusal, put_refused};
+use crate::status::{Answer, Command, Status};
 use obd_base::{NoMemory, ReadRefusal, Sink, Source, Text, WriteFault, read_all, write_all_of};
-use obd_doc::read_plain;
-use page_surface::Page;
+use obd_doc::{Book, DocRefusal, read};
 use std::alloc::Global;
 
 /// The greatest number of bytes of a document.
@@ -18,52 +21,139 @@ pub const DOCUMENT_LIMIT: usize = 1_048_576;
 
 const USAGE: &str = "usage: obd decide | page | check | sample SEED TWISTS\n";
 
-const TOO_LONG: &str = "refused 1 InputLong 1048576\n";
-
-const NOT_BUILT: &str = "refused 90 NotBuilt document\n";
-
-fn is_command(words: &[String]) -> bool
-    ensures { result ≡ is_command (map string_bytes words.now) }
+// The command that the words are, if they are one.
+fn command_of(words: &[String]) -> Option<Command>
+    ensures { result ≡ command_of (map string_bytes words.now) }
 {
-    words.len() == 1 && words[0].as_str() == "decide"
+    if words.len() != 1 {
+        return None;
+    }
+    if words[0].as_str() == "decide" {
+        return Some(Command::Decide);
+    }
+    None
 }
 
-// The answer with this status and this line.
-fn answer_with(alloc: Global, status: Status, line: &str) -> Result<Answer, NoMemory>
-    ensures { IfOk result (λ answer. answer ≡ record { status = status; text = line.now }) }
+// The answer to words that are no command.
+fn usage(alloc: Global) -> Result<Answer, NoMemory>
+    ensures { IfOk result (λ answer. answer ≡ usage) }
 {
     let mut text = Text::new(alloc);
-    text.put(line)?;
-    Ok(Answer { status, text })
+    text.put(USAGE)?;
+    Ok(Answer {
+        status: Status::Usage,
+        text,
+    })
 }
 
-// The answer to a page: its certificate.
-fn answer_to_page(alloc: Global, page: &Page) -> Result<Answer, NoMemory>
-    requires { length page.now ≡ 1 }
-    ensures answered { IfOk result (Certifies page.now) }
-    ensures settled { IfOk result (λ answer. has_text answer.status ≡ true) }
+// The answer to more bytes than the limit.
+fn too_long(alloc: Global) -> Result<Answer, NoMemory>
+    ensures { IfOk result (λ answer. answer ≡ too_long) }
 {
-    let certificate = certify(alloc, page)?;
+    let mut text = Text::new(alloc);
+    put_refused(&mut text, 1, "InputLong", &[], &[DOCUMENT_LIMIT as u64])?;
+    Ok(Answer {
+        status: Status::Refused,
+        text,
+    })
+}
+
+// The answer to what is no document of a book.
+fn refused(alloc: Global, refusal: &DocRefusal) -> Result<Answer, NoMemory>
+    ensures { IfOk result (λ answer. answer ≡ refused_with (doc_line refusal.now)) }
+{
+    let mut text = Text::new(alloc);
+    put_doc_refusal(&mut text, refusal)?;
+    Ok(Answer {
+        status: Status::Refused,
+        text,
+    })
+}
+
+// The answer to a book of which something isn't taken yet.
+fn not_taken(alloc: Global, what: &str) -> Result<Answer, NoMemory>
+    ensures { IfOk result (λ answer. answer ≡ refused_with (refused_line 90 (codes "NotBuilt") (what.now ∷ []) [])) }
+{
+    let mut text = Text::new(alloc);
+    put_refused(&mut text, 90, "NotBuilt", &[what], &[])?;
+    Ok(Answer {
+        status: Status::Refused,
+        text,
+    })
+}
+
+// What of a book `decide` doesn't take yet.
+fn not_decided(book: &Book) -> Option<&'static str>
+    ensures { option_map (λ what. what.now) result ≡ not_decided Command.Decide book.now }
+{
+    if book.limits.moves != 20_000 || book.limits.generators != 20_000 {
+        return Some("limits");
+    }
+    if !book.twists.is_empty() {
+        return Some("twists");
+    }
+    None
+}
+
+// What of a book a command doesn't take yet.
+fn not_built(command: Command, book: &Book) -> Option<&'static str>
+    ensures { option_map (λ what. what.now) result ≡ not_built command book.now }
+{
+    if book.page.polygon_count() > 1 {
+        return Some("polygons");
+    }
+    if !book.slides.is_empty() {
+        return Some("slides");
+    }
+    match command {
+        Command::Decide => not_decided(book),
+    }
+}
+
+// The certificate of a book that is taken.
+fn decided(alloc: Global, book: &Book) -> Result<Answer, NoMemory>
+    requires valid { IsBook book.now }
+    requires taken { not_built Command.Decide book.now ≡ None }
+    ensures answered { IfOk result (Certifies book.now) }
+    ensures settled { IfOk result (λ answer. answer.status ≡ Status.Done) }
+{
+    let certificate = certify(alloc, book)?;
     Ok(Answer {
         status: Status::Done,
         text: print(alloc, &certificate)?,
     })
 }
 
-// The answer to a document.
-fn answer_to(alloc: Global, bytes: &[u8]) -> Result<Answer, NoMemory>
-    ensures answered { IfOk result (AnswersBook (book_of bytes.now)) }
+// The answer to a book.
+fn answer_to_book(alloc: Global, command: Command, book: &Book) -> Result<Answer, NoMemory>
+    requires { IsBook book.now }
+    ensures answered { IfOk result (AnswersBook command book.now) }
     ensures settled { IfOk result (λ answer. has_text answer.status ≡ true) }
 {
-    match read_plain(alloc, bytes)? {
-        Some(page) => answer_to_page(alloc, &page),
-        None => answer_with(alloc, Status::Refused, NOT_BUILT),
+    match not_built(command, book) {
+        Some(what) => not_taken(alloc, what),
+        None => match command {
+            Command::Decide => decided(alloc, book),
+        },
+    }
+}
+
+// The answer to a document.
+fn answer_to(alloc: Global, command: Command, bytes: &[u8]) -> Result<Answer, NoMemory>
+    requires { length bytes.now < 2 ^ 32 }
+    ensures answered { IfOk result (AnswersBytes command bytes.now) }
+    ensures settled { IfOk result (λ answer. has_text answer.status ≡ true) }
+{
+    match read(alloc, bytes) {
+        Ok(book) => answer_to_book(alloc, command, &book),
+        Err(DocRefusal::NoMemory) => Err(NoMemory),
+        Err(refusal) => refused(alloc, &refusal),
     }
 }
 
 // The answer to what is read, or the status that stands in its place.
-fn answer_read<S: Source>(alloc: Global, source: &mut S) -> Result<Answer, Status>
-    ensures answered { IfOk result (λ answer. AnswersAll (S.left source.old) (S.left source.new) answer
+fn answer_read<S: Source>(alloc: Global, command: Command, source: &mut S) -> Result<Answer, Status>
+    ensures answered { IfOk result (λ answer. AnswersAll command (S.left source.old) (S.left source.new) answer
         ⊎ AnswersLong (S.left source.old) (S.left source.new) answer) }
     ensures settled { IfOk result (λ answer. has_text answer.status ≡ true) }
     ensures kept { OnOk result (S.faults source.new ≡ S.faults source.old) }
@@ -71,8 +161,8 @@ fn answer_read<S: Source>(alloc: Global, source: &mut S) -> Result<Answer, Statu
         ⊎ (status ≡ Status.ReadFault × Rose (S.faults source.old) (S.faults source.new))) }
 {
     let answer = match read_all(alloc, source, DOCUMENT_LIMIT) {
-        Ok(bytes) => answer_to(alloc, &bytes),
-        Err(ReadRefusal::InputLong) => answer_with(alloc, Status::Refused, TOO_LONG),
+        Ok(bytes) => answer_to(alloc, command, &bytes),
+        Err(ReadRefusal::InputLong) => too_long(alloc),
         Err(ReadRefusal::ReadFault) => return Err(Status::ReadFault),
         Err(ReadRefusal::NoMemory) => return Err(Status::NoMemory),
     };
@@ -84,18 +174,18 @@ fn answer_read<S: Source>(alloc: Global, source: &mut S) -> Result<Answer, Statu
 
 // The answer that is owed, or the status that stands in its place.
 fn owed<S: Source>(alloc: Global, words: &[String], source: &mut S) -> Result<Answer, Status>
-    ensures owed { IfOk result (Owes (is_command (map string_bytes words.now)) (S.left source.old) (S.left source.new)) }
+    ensures owed { IfOk result (Owes (command_of (map string_bytes words.now)) (S.left source.old) (S.left source.new)) }
     ensures text { IfOk result (λ answer. has_text answer.status ≡ true) }
-    ensures usage { is_command (map string_bytes words.now) ≡ false → MatchResult result (λ answer. answer.status ≡ Status.Usage) (λ status. status ≡ Status.NoMemory) }
-    ensures unread { is_command (map string_bytes words.now) ≡ false → source.new ≡ source.old }
+    ensures usage { command_of (map string_bytes words.now) ≡ None → MatchResult result (λ answer. answer.status ≡ Status.Usage) (λ status. status ≡ Status.NoMemory) }
+    ensures unread { command_of (map string_bytes words.now) ≡ None → source.new ≡ source.old }
     ensures kept { OnOk result (S.faults source.new ≡ S.faults source.old) }
     ensures fault { IfErr result (λ status. (status ≡ Status.NoMemory × (S.faults source.new ≡ S.faults source.old))
         ⊎ (status ≡ Status.ReadFault × Rose (S.faults source.old) (S.faults source.new))) }
 {
-    if is_command(words) {
-        return answer_read(alloc, source);
+    if let Some(command) = command_of(words) {
+        return answer_read(alloc, command, source);
     }
-    match answer_with(alloc, Status::Usage, USAGE) {
+    match usage(alloc) {
         Ok(answer) => Ok(answer),
         Err(NoMemory) => Err(Status::NoMemory),
     }
@@ -124,13 +214,13 @@ fn run_words<S: Source, K: Sink>(
     source: &mut S,
     sink: &mut K,
 ) -> Status
-    ensures told { has_text result ≡ true → Told (is_command (map string_bytes words.now))
+    ensures told { has_text result ≡ true → Told (command_of (map string_bytes words.now))
         (S.left source.old) (S.left source.new) (K.written sink.old) (K.written sink.new) result }
-    ensures no_command { is_command (map string_bytes words.now) ≡ false → (result ≡ Status.Usage) ⊎ (result ≡ Status.WriteFault) ⊎ (result ≡ Status.NoMemory) }
-    ensures unread { is_command (map string_bytes words.now) ≡ false → source.new ≡ source.old }
+    ensures no_command { command_of (map string_bytes words.now) ≡ None → (result ≡ Status.Usage) ⊎ (result ≡ Status.WriteFault) ⊎ (result ≡ Status.NoMemory) }
+    ensures unread { command_of (map string_bytes words.now) ≡ None → source.new ≡ source.old }
     ensures read_fault { result ≡ Status.ReadFault → Rose (S.faults source.old) (S.faults source.new) }
     ensures write_fault { result ≡ Status.WriteFault → Rose (K.faults sink.old) (K.faults sink.new)
-        × CutShort (is_command (map string_bytes words.now)) (S.left source.old) (S.left source.new) (K.written sink.old) (K.written sink.new) }
+        × CutShort (command_of (map string_bytes words.now)) (S.left source.old) (S.left source.new) (K.written sink.old) (K.written sink.new) }
     ensures read_well { result ≢ Status.ReadFault → S.faults source.new ≡ S.faults source.old }
     ensures wrote_well { result ≢ Status.WriteFault → K.faults sink.new ≡ K.faults sink.old }
     ensures unwritten { (result ≡ Status.ReadFault) ⊎ (result ≡ Status.NoMemory) → sink.new ≡ sink.old }
@@ -158,25 +248,25 @@ pub fn run<S: Source, K: Sink>(
     ensures done { result ≡ Status.Done → Decided (S.left source.old) (S.left source.new) (K.written sink.old) (K.written sink.new) }
 
     // Each status with a text: the text that is owed was written, whole.
-    ensures told { has_text result ≡ true → Told (is_command (map string_bytes words.now))
+    ensures told { has_text result ≡ true → Told (command_of (map string_bytes words.now))
         (S.left source.old) (S.left source.new) (K.written sink.old) (K.written sink.new) result }
 
     // Usage comes exactly for words that are no command, and then nothing was read.
-    ensures usage { result ≡ Status.Usage → is_command (map string_bytes words.now) ≡ false }
-    ensures no_command { is_command (map string_bytes words.now) ≡ false → (result ≡ Status.Usage) ⊎ (result ≡ Status.WriteFault) ⊎ (result ≡ Status.NoMemory) }
-    ensures unread { is_command (map string_bytes words.now) ≡ false → source.new ≡ source.old }
+    ensures usage { result ≡ Status.Usage → command_of (map string_bytes words.now) ≡ None }
+    ensures no_command { command_of (map string_bytes words.now) ≡ None → (result ≡ Status.Usage) ⊎ (result ≡ Status.WriteFault) ⊎ (result ≡ Status.NoMemory) }
+    ensures unread { command_of (map string_bytes words.now) ≡ None → source.new ≡ source.old }
 
     // A fault comes only where the device's count of faults rose, and no other status where one did.
     ensures read_fault { result ≡ Status.ReadFault → Rose (S.faults source.old) (S.faults source.new) }
     ensures write_fault { result ≡ Status.WriteFault → Rose (K.faults sink.old) (K.faults sink.new)
-        × CutShort (is_command (map string_bytes words.now)) (S.left source.old) (S.left source.new) (K.written sink.old) (K.written sink.new) }
+        × CutShort (command_of (map string_bytes words.now)) (S.left source.old) (S.left source.new) (K.written sink.old) (K.written sink.new) }
     ensures read_well { result ≢ Status.ReadFault → S.faults source.new ≡ S.faults source.old }
     ensures wrote_well { result ≢ Status.WriteFault → K.faults sink.new ≡ K.faults sink.old }
     ensures unwritten { (result ≡ Status.ReadFault) ⊎ (result ≡ Status.NoMemory) → sink.new ≡ sink.old }
 
     // For bytes that the source tells, the status is that of the answer to them, but for a fault or want of memory.
-    ensures complete { (bytes : List ℕ) → is_command (map string_bytes words.now) ≡ true
-        → S.left source.old ≡ Some bytes → (result ≡ status_owed bytes) ⊎ IsFault result }
+    ensures complete { (bytes : List ℕ) (command : Which) → command_of (map string_bytes words.now) ≡ Some command
+        → S.left source.old ≡ Some bytes → (result ≡ status_owed command bytes) ⊎ IsFault result }
     ensures ended { has_text result ≡ true ⊎ IsFault result }
 {
     run_words(alloc, words, source, sink)

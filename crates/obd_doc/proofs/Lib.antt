@@ -1,3 +1,9 @@
+mod Accepted
+mod BookRules
+mod Occurrences
+mod CurvesSoFar
+mod TwistsSoFar
+mod Rules
 mod SoFar
-mod PlainLemmas
-mod PageLemmas
+mod Text
+pub mod Laws

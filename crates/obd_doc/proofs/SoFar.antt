@@ -1,15 +1,16 @@
 -- Arrays that are read value by value.
-use Rattle.std.proofs.Common.{◌≡◌, ℕ, ◌+◌, ◌<◌, Bool, true, false, ◌&&◌, List, [], ◌∷◌, ◌++◌, length, map, take, get_or, subst, ◌≤◌, Option, Some, None, option_map, is_some, refl, sym, ◌∙◌, ap, arith}
+use Rattle.std.proofs.Common.{◌≡◌, ℕ, ◌+◌, ◌<◌, Bool, true, false, ◌&&◌, List, [], ◌∷◌, ◌++◌, length, map, take, get_or, subst, ◌≤◌, ◌≢◌, Global, String, string_bytes, Option, Some, None, option_map, is_some, refl, sym, ◌∙◌, ap, arith}
 use Rattle.std.specs.List.{list_all}
-use Rattle.std.proofs.lemmas.Bool.{and_from, false≢true, false_from_ne_true}
+use Rattle.std.proofs.lemmas.Bool.{and_from, eq-eqb, false≢true, false_from_ne_true, ne_eqb}
 use Rattle.std.proofs.lemmas.List.{get_or-map, length-map, map-append, take_more, take_all}
 use Rattle.std.proofs.lemmas.List.Sums.{AllPass-from_list_all}
-use Rattle.serde_json.specs.Data.{Data, Items}
-use Rattle.serde_json.specs.Find.{as_array}
-use Rattle.serde_json.specs.View.{items_of, items_view, view}
+use Rattle.serde_json.specs.Data.{Data, Items, null}
+use Rattle.std.specs.Map.{keys_of}
+use Rattle.serde_json.specs.Find.{as_array, as_object}
+use Rattle.serde_json.specs.View.{items_of, items_view, members_view, view}
 use Rattle.serde_json.specs.declared.value.Value.{Value}
 use Rattle.obd_doc.specs.Reading.{Kind, array_of}
-use Rattle.obd_doc.specs.Values.{elements, listed}
+use Rattle.obd_doc.specs.Values.{element, elements, field_names, is_array_of, listed, names_in}
 
 -- items as a list, and back
 pub listed_items : (ds : List Data) → listed (items_of ds) ≡ ds
@@ -92,3 +93,25 @@ module _ {A : Type 0} (kind : Kind A) (d : Data) (vs : List Value) (is : Some (i
 
     pub array_number_wrong : is_whole ≡ false → ((array_of kind).form d ≡ true) × ((array_of kind).numbers d ≡ false)
     array_number_wrong wrong = (rw ((elements_view d vs is).1) all_read.form, all_read.numbers ∙ wrong)
+
+-- an array has as many elements as it has values
+module _ (d : Data) (vs : List Value) (is : Some (items_view vs) ≡ as_array d) where
+  pub array_has : (n : ℕ) → length vs ≡ n → is_array_of n d ≡ true
+  array_has n count = let (e, a) = elements_view d vs is in rw (a, e, length-map vs view) (eq-eqb (length vs) n count)
+
+  pub array_has_not : (n : ℕ) → length vs ≢ n → is_array_of n d ≡ false
+  array_has_not n count = let (e, a) = elements_view d vs is in rw (a, e, length-map vs view) (ne_eqb (length vs) n count)
+
+-- an element is one of the values
+pub element_is : (d : Data) (vs : List Value) (i : ℕ) (v : Value) → map view vs ≡ elements d → i < length vs → v ≡ get_or vs i v → view v ≡ element d i
+element_is d vs i v are within is =
+    ap view is ∙ (sym (get_or-map view vs i v null within) ∙ ap (λ ds. get_or ds i null) are)
+
+-- a test of the names of an object's fields, over its map's keys
+names_view : (p : List ℕ → Bool) (ms : List (String Global × Value)) → list_all (λ name. p (string_bytes name)) (keys_of ms) ≡ list_all p (names_in (members_view ms))
+names_view p [] = refl
+names_view p (m ∷ ms) = ap (λ rest. p (string_bytes m.0) && rest) (names_view p ms)
+
+pub object_names : (p : List ℕ → Bool) (d : Data) (ms : List (String Global × Value)) (result : Bool) → Some (members_view ms) ≡ as_object d
+    → result ≡ list_all (λ name. p (string_bytes name)) (keys_of ms) → result ≡ (is_some (as_object d) && list_all p (field_names d))
+object_names p d ms result is all = rw (← is) (all ∙ names_view p ms)

@@ -1,14 +1,7 @@
-// The entries of a document: crossings, curves, twists and limits.
+// The entries of a document: curves, twists and limits.
 
+use curve_paths::Cross;
 use obd_base::{Items, Name};
-
-/// One crossing
-#[derive(Drop)]
-pub struct Cross {
-    pub label: Name,
-    pub occurrence: u8,
-    pub place: u32,
-}
 
 /// A curve by its name and its crossings in order.
 #[derive(Drop)]

@@ -1,14 +1,17 @@
 // The kinds of values in a document, each read from JSON.
-ghost use Rattle.std.specs.Prelude.{◌≡◌, map, is_some, IfSome};
+ghost use Rattle.std.specs.Prelude.{◌≡◌, ◌&&◌, true, map, is_some, IfSome};
 ghost use Rattle.std.specs.List.{list_all};
+ghost use Rattle.std.specs.Option.{option_map_or};
+ghost use Rattle.serde_json.specs.Find.{as_object, get};
 ghost use Rattle.serde_json.specs.View.{view};
 ghost use Rattle.obd_doc.specs.Kinds.{cross, is_limit, limit, limits, name, named_path, named_twist, power, slide_side, whole_from};
 ghost use Rattle.obd_doc.specs.Reading.{Reads};
 ghost use Rattle.obd_doc.specs.Values.{elements, field_names, is_array_of, is_number};
 
-use crate::entries::{Cross, Limits, NamedPath, NamedTwist};
+use crate::entries::{Limits, NamedPath, NamedTwist};
 use crate::reading::{Readable, Unread};
 use crate::values::name_text;
+use curve_paths::Cross;
 use obd_base::{Items, Name, SideNo};
 use serde_json::Value;
 use std::alloc::Global;
@@ -21,7 +24,7 @@ fn is_number(value: &Value) -> bool
 }
 
 // A whole number from one to another.
-fn whole_from(value: &Value, least: u32, most: u32) -> Result<u32, Unread>
+pub(crate) fn whole_from(value: &Value, least: u32, most: u32) -> Result<u32, Unread>
     ensures { Reads (whole_from least most) (view value.now) result }
 {
     if !is_number(value) {
@@ -123,6 +126,62 @@ impl Readable for NamedTwist {
         Ok(NamedTwist {
             name: Name::read(alloc, &values[0])?,
             power: power(&values[1])?,
+        })
+    }
+}
+
+fn is_limit(name: &str) -> bool
+    ensures { result ≡ is_limit name.now }
+{
+    name == "moves" || name == "generators"
+}
+
+// Whether an object has no other fields than the two limits.
+fn has_limits_alone(value: &Value) -> bool
+    ensures { result ≡ (is_some (as_object (view value.now)) && list_all is_limit (field_names (view value.now))) }
+{
+    match value.as_object() {
+        Some(fields) => fields.keys().all(|name| is_limit(name.as_str())),
+        None => false,
+    }
+}
+
+// Whether a field is a number, where it is there.
+fn is_number_if_there(value: &Value, name: &str) -> bool
+    ensures { result ≡ option_map_or is_number (get name.now (view value.now)) true }
+{
+    match value.get(name) {
+        Some(number) => is_number(number),
+        None => true,
+    }
+}
+
+// A limit by its name, from the least that it may be.
+fn limit(value: &Value, name: &str, least: u32) -> Result<u32, Unread>
+    ensures { Reads (limit name.now least) (view value.now) result }
+{
+    match value.get(name) {
+        Some(number) => whole_from(number, least, GREATEST_LIMIT),
+        None => Ok(GREATEST_LIMIT),
+    }
+}
+
+/// The greatest limit, which is taken where one is absent.
+pub(crate) const GREATEST_LIMIT: u32 = 20_000;
+
+impl Readable for Limits {
+    ghost kind = { limits };
+
+    fn read(_alloc: Global, value: &Value) -> Result<Self, Unread> {
+        if !has_limits_alone(value) {
+            return Err(Unread::Form);
+        }
+        if !is_number_if_there(value, "generators") {
+            return Err(Unread::Form);
+        }
+        Ok(Limits {
+            moves: limit(value, "moves", 0)?,
+            generators: limit(value, "generators", 1)?,
         })
     }
 }

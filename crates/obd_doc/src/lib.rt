@@ -1,14 +1,20 @@
 //! The document of an open book, read from its bytes.
 //!
-//! A document is one JSON value. What `serde_json` reads from bytes that are UTF-8 is its own definition.
-//! For now only plain books are read: one polygon, no curve and no twist. The form of documents is this
-//! project's own.
+//! A document is one JSON value; what `serde_json` reads from bytes that are UTF-8 is its own definition. Its
+//! fields are tried in order, each for its form and then for its numbers; then the numbers of entries, the page,
+//! the curves one by one and the twists. The form of documents is this project's own.
 #![tactic(auto)]
 
-mod plain;
+mod book;
+mod document;
 mod entries;
+mod fields;
 mod kinds;
 mod reading;
+mod refusal;
 mod values;
 
-pub use plain::read_plain;
+pub use book::{Book, NamedCurve, Twist};
+pub use document::read;
+pub use entries::{Limits, NamedPath, NamedTwist};
+pub use refusal::{DocRefusal, FieldName};

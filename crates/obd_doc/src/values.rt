@@ -1,9 +1,8 @@
-// The value that the bytes give, and tests of single values.
+// The value that the bytes give, and names.
 ghost use Rattle.std.specs.Prelude.{◌≡◌, if◌then◌else◌, Some, None, option_map, IfOk};
-ghost use Rattle.obd_doc.specs.Values.{is_name_text, text_of};
+ghost use Rattle.obd_doc.specs.Values.{is_name, is_name_byte, is_name_text, text_of, value_of};
 ghost use Rattle.std.specs.List.{list_all};
-ghost use Rattle.serde_json.specs.View.{view, items_view};
-ghost use Rattle.obd_doc.specs.Plain.{value_of, is_name_byte, is_name, name_of, is_empty_list as is_empty_data, is_one as is_one_data, field_count as field_count_of, has, only_list as only_list_of};
+ghost use Rattle.serde_json.specs.View.{view};
 
 use obd_base::NoMemory;
 use serde_json::Value;
@@ -49,68 +48,4 @@ pub(crate) fn name_text(value: &Value) -> Option<&str>
 {
     let word = value.as_str()?;
     if is_name(word) { Some(word) } else { None }
-}
-
-// The value as a name, where it is one.
-pub(crate) fn name(value: &Value) -> Option<&str>
-    ensures { option_map (λ s. s.now) result ≡ name_of (view value.now) }
-{
-    let word = value.as_str()?;
-    if is_name(word) { Some(word) } else { None }
-}
-
-fn is_empty_list(value: &Value) -> bool
-    ensures { result ≡ is_empty_data (view value.now) }
-{
-    match value.as_array() {
-        Some(items) => items.as_slice().is_empty(),
-        None => false,
-    }
-}
-
-fn is_one(value: &Value) -> bool
-    ensures { result ≡ is_one_data (view value.now) }
-{
-    value.as_u64() == Some(1)
-}
-
-// How many fields the value has, where it is an object.
-pub(crate) fn field_count(value: &Value) -> usize
-    ensures { result ≡ field_count_of (view value.now) }
-{
-    match value.as_object() {
-        Some(fields) => fields.len(),
-        None => 0,
-    }
-}
-
-// Whether the field holds the number 1.
-pub(crate) fn has_one(value: &Value, field: &str) -> bool
-    ensures { result ≡ has is_one_data field.now (view value.now) }
-{
-    match value.get(field) {
-        Some(value) => is_one(value),
-        None => false,
-    }
-}
-
-// Whether the field holds the empty array.
-pub(crate) fn has_empty_list(value: &Value, field: &str) -> bool
-    ensures { result ≡ has is_empty_data field.now (view value.now) }
-{
-    match value.get(field) {
-        Some(value) => is_empty_list(value),
-        None => false,
-    }
-}
-
-// The one array that an array holds.
-pub(crate) fn only_list(value: &Value) -> Option<&Vec<Value>>
-    ensures { option_map (λ v. items_view v.now.items) result ≡ only_list_of (view value.now) }
-{
-    let lists = value.as_array()?.as_slice();
-    if lists.len() != 1 {
-        return None;
-    }
-    lists[0].as_array()
 }

@@ -1,22 +1,19 @@
-// Calls that take memory, each once where memory is ample. `read_plain` makes a page; a run makes a polygon,
-// a copy of it and a diagram.
+// A call that takes memory, once where memory is ample.
 use obd_base::LabelNo;
-use obd_doc::read_plain;
+use obd_doc::read;
 use std::test::Fail;
 
 #[test]
-fn the_labels_of_a_plain_book_are_numbered_by_first_appearance(
-    rt: HostRuntime,
-) -> Result<(), Fail> {
+fn the_labels_of_a_book_are_numbered_by_first_appearance(rt: HostRuntime) -> Result<(), Fail> {
     let alloc = rt.alloc();
     let bytes =
         b"{\"open_book\":1,\"polygons\":[[\"B\",\"A\",\"B\",\"A\"]],\"curves\":[],\"twists\":[]}";
-    let Ok(Some(page)) = read_plain(alloc, bytes) else {
+    let Ok(book) = read(alloc, bytes) else {
         return Err(Fail::new("not read"));
     };
-    assert_eq!(rt; page.polygon_count(), 1);
-    assert_eq!(rt; page.label_count(), 2);
-    assert_eq!(rt; page.label("A"), Some(LabelNo::new(1)));
-    assert_eq!(rt; page.label("C"), None);
+    assert_eq!(rt; book.page.polygon_count(), 1);
+    assert_eq!(rt; book.page.label_count(), 2);
+    assert_eq!(rt; book.page.label("A"), Some(LabelNo::new(1)));
+    assert_eq!(rt; book.page.label("C"), None);
     Ok(())
 }

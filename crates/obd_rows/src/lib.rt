@@ -6,4 +6,12 @@
 #[cfg(test)]
 mod calls;
 #[cfg(test)]
+mod curves;
+#[cfg(test)]
+mod documents;
+#[cfg(test)]
+mod making;
+#[cfg(test)]
+mod pages;
+#[cfg(test)]
 mod runs;

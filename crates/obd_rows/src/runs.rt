@@ -9,20 +9,30 @@ const ANNULUS: &str = "{\"open_book\":1,\"polygons\":[[\"A\",\"A\"]],\"curves\":
 const ANNULUS_TEXT: &str =
     "contact certificate 1\npolygons 1\npolygon A A\ncurves 0\nslides 0\ntwists 0\nseams 0\nbasis 0 0\nstrand 0 1.0\nfingers 0\nfinal 0 1.0\ngenerators 2\ncontact 1 1\npivots 0\nrank 0\nhomology 2\nnonzero 1\nend\n";
 
-const TORUS: &str = "{\"open_book\":1,\"polygons\":[[\"A\",\"B\",\"A\",\"B\"]],\"curves\":[],\"twists\":[]}";
+const TORUS: &str =
+    "{\"open_book\":1,\"polygons\":[[\"A\",\"B\",\"A\",\"B\"]],\"curves\":[],\"twists\":[]}";
 
 const TORUS_TEXT: &str =
     "contact certificate 1\npolygons 1\npolygon A B A B\ncurves 0\nslides 0\ntwists 0\nseams 0\nbasis 0 1 0 1\nstrand 0 2.0\nstrand 1 3.0\nfingers 0\nfinal 0 2.0\nfinal 1 3.0\ngenerators 4\ncontact 3 1 1\npivots 0\nrank 0\nhomology 4\nnonzero 3\nend\n";
 
 // A shuffled polygon, with a name of 16 characters.
-const FIVE_ARCS: &str = "{\"open_book\":1,\"polygons\":[[\"A\",\"_\",\"Zz9\",\"xxxxxxxxxxxxxxxx\",\"b_1\",\"A\",\"Zz9\",\"_\",\"xxxxxxxxxxxxxxxx\",\"b_1\"]],\"curves\":[],\"twists\":[]}";
+const FIVE_ARCS: &str =
+    "{\"open_book\":1,\"polygons\":[[\"A\",\"_\",\"Zz9\",\"xxxxxxxxxxxxxxxx\",\"b_1\",\"A\",\"Zz9\",\"_\",\"xxxxxxxxxxxxxxxx\",\"b_1\"]],\"curves\":[],\"twists\":[]}";
 
 const FIVE_ARCS_TEXT: &str =
     "contact certificate 1\npolygons 1\npolygon A _ Zz9 xxxxxxxxxxxxxxxx b_1 A Zz9 _ xxxxxxxxxxxxxxxx b_1\ncurves 0\nslides 0\ntwists 0\nseams 0\nbasis 0 1 2 3 4 0 2 1 3 4\nstrand 0 5.0\nstrand 1 7.0\nstrand 2 6.0\nstrand 3 8.0\nstrand 4 9.0\nfingers 0\nfinal 0 5.0\nfinal 1 7.0\nfinal 2 6.0\nfinal 3 8.0\nfinal 4 9.0\ngenerators 32\ncontact 31 1 1 1 1 1\npivots 0\nrank 0\nhomology 32\nnonzero 31\nend\n";
 
-const EIGHT_ARCS: &str = "{\"open_book\":1,\"polygons\":[[\"1\",\"2\",\"3\",\"4\",\"5\",\"6\",\"7\",\"8\",\"1\",\"2\",\"3\",\"4\",\"5\",\"6\",\"7\",\"8\"]],\"curves\":[],\"twists\":[]}";
+const EIGHT_ARCS: &str =
+    "{\"open_book\":1,\"polygons\":[[\"1\",\"2\",\"3\",\"4\",\"5\",\"6\",\"7\",\"8\",\"1\",\"2\",\"3\",\"4\",\"5\",\"6\",\"7\",\"8\"]],\"curves\":[],\"twists\":[]}";
 
-const NOT_BUILT: &str = "refused 90 NotBuilt document\n";
+// The annulus with its core curve, about which there is no twist.
+const CORE: &str =
+    "{\"open_book\":1,\"polygons\":[[\"A\",\"A\"]],\"curves\":[[\"c\",[[\"A\",0,0]]]],\"twists\":[]}";
+
+const CORE_TEXT: &str =
+    "contact certificate 1\npolygons 1\npolygon A A\ncurves 1\ncurve c A:0:0\nslides 0\ntwists 0\nseams 0\nbasis 0 0\nstrand 0 1.0\nfingers 0\nfinal 0 1.0\ngenerators 2\ncontact 1 1\npivots 0\nrank 0\nhomology 2\nnonzero 1\nend\n";
+
+const NOT_BUILT: &str = "refused 90 NotBuilt twists\n";
 
 const USAGE: &str = "usage: obd decide | page | check | sample SEED TWISTS\n";
 
@@ -46,8 +56,9 @@ fn documents_are_answered(rt: HostRuntime) -> Result<(), Fail> {
             ANNULUS_TEXT,
             Status::Done,
         ),
+        (CORE, CORE_TEXT, Status::Done),
         (
-            "{\"open_book\":1,\"polygons\":[[\"A\",\"A\"]],\"curves\":[[\"c\",[[\"A\",0,0]]]],\"twists\":[]}",
+            "{\"open_book\":1,\"polygons\":[[\"A\",\"A\"]],\"curves\":[[\"c\",[[\"A\",0,0]]]],\"twists\":[[\"c\",1]]}",
             NOT_BUILT,
             Status::Refused,
         ),
@@ -55,15 +66,15 @@ fn documents_are_answered(rt: HostRuntime) -> Result<(), Fail> {
         (FIVE_ARCS, FIVE_ARCS_TEXT, Status::Done),
         (
             "{\"open_book\":1,\"polygons\":[[\"A\",\"A\",\"A\"]],\"curves\":[],\"twists\":[]}",
-            NOT_BUILT,
+            "refused 15 LabelCount A 3\n",
             Status::Refused,
         ),
         (
             "{\"open_book\":1.0,\"polygons\":[[\"A\",\"A\"]],\"curves\":[],\"twists\":[]}",
-            NOT_BUILT,
+            "refused 4 Number open_book\n",
             Status::Refused,
         ),
-        ("", NOT_BUILT, Status::Refused),
+        ("", "refused 2 Json 0\n", Status::Refused),
     ] {
         let mut source = SureSource::new(document.as_bytes().to_vec(alloc)?);
         let mut sink = MemSink::new(alloc, 1000, 100, Vec::new(alloc))?;
@@ -84,9 +95,11 @@ fn eight_arcs_have_256_generators(rt: HostRuntime) -> Result<(), Fail> {
     let mut source = SureSource::new(EIGHT_ARCS.as_bytes().to_vec(alloc)?);
     let mut sink = MemSink::new(alloc, 1000, 1000, Vec::new(alloc))?;
     assert_eq!(rt; run(alloc, &decide, &mut source, &mut sink), Status::Done);
-    assert!(rt; sink.taken().ends_with(
-        b"generators 256\ncontact 255 1 1 1 1 1 1 1 1\npivots 0\nrank 0\nhomology 256\nnonzero 255\nend\n"
-    ));
+    assert!(rt;
+        sink.taken().ends_with(
+            b"generators 256\ncontact 255 1 1 1 1 1 1 1 1\npivots 0\nrank 0\nhomology 256\nnonzero 255\nend\n"
+        )
+    );
     Ok(())
 }
 
@@ -184,7 +197,7 @@ fn one_byte_above_the_limit_is_refused(rt: HostRuntime) -> Result<(), Fail> {
     let alloc = rt.alloc();
     let decide = words(alloc, &["decide"])?;
     for (size, text) in [
-        (DOCUMENT_LIMIT, NOT_BUILT),
+        (DOCUMENT_LIMIT, "refused 2 Json 1048576\n"),
         (DOCUMENT_LIMIT + 1, "refused 1 InputLong 1048576\n"),
     ] {
         let mut source = SureSource::new(vec![in alloc; 32; size]?);

@@ -4,7 +4,7 @@ pub mod Examples
 pub mod FewSides
 mod Filled
 mod Firsts
-mod Keys
+pub mod Keys
 pub mod LabelNumbers
 pub mod Laws
 pub mod Names

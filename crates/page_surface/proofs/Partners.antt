@@ -7,7 +7,7 @@ use Rattle.page_surface.specs.Drawing.{Drawing, all_exits, points_on}
 use Rattle.page_surface.specs.Polygon.{IsPolygon, Polygon, partner}
 
 -- partners are alike in every test
-partner-eqb : (p : Polygon) → IsPolygon p → (k l : ℕ) → eqb (partner p k) (partner p l) ≡ eqb k l
+pub partner-eqb : (p : Polygon) → IsPolygon p → (k l : ℕ) → eqb (partner p k) (partner p l) ≡ eqb k l
 partner-eqb p ok k l = go (eqb k l) refl
   where
     go : (b : Bool) → eqb k l ≡ b → eqb (partner p k) (partner p l) ≡ b
@@ -15,7 +15,7 @@ partner-eqb p ok k l = go (eqb k l) refl
     go false e = ne_eqb _ _ (λ q. eqb-false k l e (sym (ok.pairs.twice k) ∙ ap (partner p) q ∙ ok.pairs.twice l))
 
 -- and on the right
-partner-eqb-right : (p : Polygon) → IsPolygon p → (k l : ℕ) → eqb k (partner p l) ≡ eqb (partner p k) l
+pub partner-eqb-right : (p : Polygon) → IsPolygon p → (k l : ℕ) → eqb k (partner p l) ≡ eqb (partner p k) l
 partner-eqb-right p ok k l = sym (partner-eqb p ok k (partner p l)) ∙ ap (eqb (partner p k)) (ok.pairs.twice l)
 
 -- a side has as many points as its partner

@@ -92,8 +92,9 @@ fn image_of(
     requires in_range { All (λ s. s < sides polygon.now) word.now }
     requires from { from < sides polygon.now }
     requires to { to < sides polygon.now }
-    ensures { IfOk result (λ made. (curve : List Leaves) (sign : Turn) → pushes.now ≡ map (push_at polygon.now curve sign) (below (sides polygon.now))
+    ensures value { IfOk result (λ made. (curve : List Leaves) (sign : Turn) → pushes.now ≡ map (push_at polygon.now curve sign) (below (sides polygon.now))
         → made.items ≡ reduced polygon.now (image polygon.now curve sign word.now from to)) }
+    ensures in_range { IfOk result (λ made. All (λ s. s < sides polygon.now) made.items) }
 {
     let mut image = Vec::new(alloc);
     let mut gap = from;
@@ -129,6 +130,7 @@ pub fn act(
     requires to { to < sides polygon.now }
     ensures image { IfOk result (λ made. made.items ≡ reduced polygon.now (image polygon.now curve.now sign word.now from to)) }
     ensures within { IfOk result (λ made. length made.items ≤ 4000) }
+    ensures in_range { IfOk result (λ made. All (λ s. s < sides polygon.now) made.items) }
     ensures refused { IfErr result (λ refusal. refusal ≢ ActRefusal.NoMemory
         → refusal ≡ ActRefusal.TooLong (length (reduced polygon.now (image polygon.now curve.now sign word.now from to)))) }
     ensures long { IfErr result (λ refusal. refusal ≢ ActRefusal.NoMemory

@@ -1,6 +1,7 @@
 use Rattle.std.proofs.Common.{◌-◌, sym, ap, ◌∙◌, arith, length}
 use Rattle.std.proofs.lemmas.Option.{same_Some}
-use Rattle.arc_basis.proofs.Tables.{found_side, length-side_table, mem_read, map_more, some_there}
+use Rattle.arc_basis.proofs.Places.{map_more, mem_read}
+use Rattle.arc_basis.proofs.Tables.{found_side, length-side_table, some_there}
 use Rattle.arc_basis.proofs.sides.partners.Goals as goal
 
 pub overflow_sub-side : goal.overflow_sub-side

@@ -1,7 +1,7 @@
 use Rattle.std.proofs.Common.{[], ◌∷◌, ◌++◌, sym, ap, ◌∙◌, arith}
 use Rattle.std.proofs.lemmas.List.{take_all}
 use Rattle.page_surface.proofs.Sides.{length-of_polygon}
-use Rattle.arc_basis.proofs.Tables.{take_next}
+use Rattle.arc_basis.proofs.Places.{take_next}
 use Rattle.arc_basis.proofs.sides.polygon_sides.Goals as goal
 
 pub loop-side-preserved : goal.loop-side-preserved

@@ -1,5 +1,6 @@
 use Rattle.std.proofs.Common.{◌∙◌, arith}
-use Rattle.arc_basis.proofs.Tables.{empty_read, full_read, mem_read, other_read, put_read, whole_table}
+use Rattle.arc_basis.proofs.Places.{mem_read}
+use Rattle.arc_basis.proofs.Tables.{empty_read, full_read, other_read, put_read, whole_table}
 use Rattle.arc_basis.proofs.sides.side_table.Goals as goal
 use Rattle.arc_basis.proofs.sides.side_table.Goals.{then-side-occurrence+then-is_none, else-side-occurrence, else-side-occurrence-via-then-side-occurrence+else-is_none, else-side-occurrence-via-else-side-occurrence}
 

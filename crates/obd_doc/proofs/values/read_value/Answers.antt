@@ -1,5 +1,5 @@
 use Rattle.std.proofs.Common.{◌≡◌, true, false, sym}
-use Rattle.obd_doc.proofs.PlainLemmas.{value_of-some, value_of-none}
+use Rattle.obd_doc.proofs.Text.{value_of-some, value_of-none}
 use Rattle.obd_doc.proofs.values.read_value.Goals as goal
 
 pub returns-in-Ok : goal.returns-in-Ok

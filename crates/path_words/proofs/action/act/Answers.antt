@@ -10,7 +10,7 @@ use Rattle.path_words.proofs.action.act.Goals.{After-len-letters}
 -- what was made is the image, reduced
 made : (c : After-len-letters) → c.in_ok-image.image.items ≡ reduced c.args.polygon.now (image c.args.polygon.now c.args.curve.now c.args.sign c.args.word.now c.args.from c.args.to)
 made c =
-    c.in_ok-image.ensures c.args.curve.now c.args.sign
+    c.in_ok-image.ensures.value c.args.curve.now c.args.sign
     (c.as_slice.ensures ∙ (c.in_ok-pushes.ensures.pushes ∙ ap (λ es. map (push_at c.args.polygon.now es c.args.sign) (below (sides c.args.polygon.now))) c.exits.ensures.value))
 
 pub overflow_cast-letters : goal.overflow_cast-letters

@@ -10,7 +10,7 @@ loop-side-preserved c =
     c.side-item.result c.previous_gap-end.result c.pair-gap.result c.put_passed.new.word.items c.put_letter.new.word.items c.loop-side-test.true c.side-item.is c.previous_gap-end.ensures.value c.pair-gap.ensures c.requires.in_range
     c.in_ok-put_passed.ensures.word c.in_ok-put_letter.ensures.word c.in_ok-put_letter.ensures.in_range c.in_ok-put_letter.ensures.is_reduced
 
-pub returns : goal.returns
-returns c =
+pub returns-clause-value : goal.returns-clause-value
+returns-clause-value c =
     moving_all c.args.polygon.now c.requires.valid c.args.pushes.now c.args.word.now c.args.from c.args.to c.loop-side.image.items c.loop-side.gap c.loop-side.side-index c.loop-side.invariant
     c.put_passed-2.new.word.items c.loop-side-test.false c.in_ok-put_passed-2.ensures.word

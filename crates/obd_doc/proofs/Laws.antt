@@ -1,0 +1,70 @@
+-- What is known of a book that was read.
+use Rattle.std.proofs.Common.{◌≡◌, ℕ, ◌<◌, eqb, cond, false, List, [], ◌∷◌, ◌++◌, length, map, get_or, Option, None, Some, option_map, refl, sym, ◌∙◌, ap, subst, arith, All}
+use Rattle.std.specs.Prelude.{is_none, nat_lt}
+use Rattle.std.specs.Option.{option_map_or}
+use Rattle.std.proofs.lemmas.Bool.{eqb-false, ltb-false}
+use Rattle.std.proofs.lemmas.List.{get_or-map, length-map}
+use Rattle.std.proofs.lemmas.Option.{same_Some}
+use Rattle.serde_json.specs.Data.{Data}
+use Rattle.page_surface.specs.Labels.{Label}
+use Rattle.page_surface.specs.Page.{IsPage, refusal_of as page_refusal, refusals}
+use Rattle.page_surface.specs.declared.refusal.PageRefusal.{PageRefusal}
+use Rattle.page_surface.specs.declared.refusal.PageRefusal.TheVariants.{NoPolygon}
+use Rattle.page_surface.proofs.FewSides.{holds_where_none, none_refuses}
+use Rattle.obd_doc.specs.Document.{IsBook, all_curve_rules, book_of, book_read, book_rules, count_rules, curve_on, field_rules, fields_of, first_of, refusal_of, twist_rule, value_rules}
+use Rattle.obd_doc.specs.Values.{value_of}
+use Rattle.obd_doc.specs.declared.book.Book.{Book}
+use Rattle.obd_doc.specs.declared.book.NamedCurve.{NamedCurve}
+use Rattle.obd_doc.specs.declared.entries.NamedPath.{NamedPath}
+use Rattle.obd_doc.specs.declared.fields.Fields.{Fields}
+use Rattle.obd_doc.specs.declared.refusal.DocRefusal.{DocRefusal}
+use Rattle.obd_doc.specs.declared.refusal.DocRefusal.TheVariants.{Json, Page as NoPage}
+
+-- the curves that are put on a page are on it
+on_page : (page : List (List Label)) (paths : List NamedPath) → All (λ c. c.curve ≡ record { page = page; path = c.path }) (map (curve_on page) paths)
+on_page page paths = λ k d l.
+    let within : k < length paths = omega (arith, l, length-map paths (curve_on page)) in
+    let named : NamedPath = record { name = d.name; path = d.path } in
+    subst (λ (c : NamedCurve). c.curve ≡ record { page = page; path = c.path }) (sym (get_or-map (curve_on page) paths k named d within)) refl
+
+-- where no rule of two lists fails, none of the first fails, and none of the second
+none_first : (rules rest : List (Option DocRefusal)) → first_of (rules ++ rest) ≡ None → first_of rules ≡ None
+none_first [] rest none = refl
+none_first (None ∷ rules) rest none = none_first rules rest none
+none_first (Some refusal ∷ rules) rest none = none
+
+none_rest : (rules rest : List (Option DocRefusal)) → first_of (rules ++ rest) ≡ None → first_of rest ≡ None
+none_rest [] rest none = none
+none_rest (None ∷ rules) rest none = none_rest rules rest none
+none_rest (Some refusal ∷ rules) rest none = absurd (let bad = none in cc)
+
+-- so the polygons are a page
+page_accepted : (refusal : Option PageRefusal) → first_of (option_map NoPage refusal ∷ []) ≡ None → refusal ≡ None
+page_accepted None none = refl
+page_accepted (Some refusal) none = absurd (let bad = none in cc)
+
+polygons_are_page : (d : Data) → first_of (value_rules d) ≡ None → IsPage (fields_of d).polygons
+polygons_are_page d none =
+    let f = fields_of d in
+    let book : first_of (book_rules f) ≡ None = none_rest (field_rules d ++ count_rules f) (book_rules f) none in
+    page_accepted (page_refusal f.polygons) (none_first (option_map NoPage (page_refusal f.polygons) ∷ []) (all_curve_rules f.polygons [] f.curves ++ twist_rule f ∷ []) book)
+
+book_is_one : (f : Fields) → IsPage f.polygons → IsBook (book_of f)
+book_is_one f page = record { is_page = page; page_is = refl; curves_on_page = on_page f.polygons f.curves }
+
+by_value : (value : Option Data) (size : ℕ) (book : Book) → (refusal : Option DocRefusal) → option_map_or (λ d. first_of (value_rules d)) value (Some (Json size)) ≡ refusal
+    → cond (is_none refusal) (option_map (λ d. book_of (fields_of d)) value) None ≡ Some book → IsBook book
+by_value (Some d) size book None none is = subst IsBook (same_Some _ _ is) (book_is_one (fields_of d) (polygons_are_page d none))
+by_value None size book None none is = absurd (let bad = none in cc)
+by_value value size book (Some refusal) found is = absurd (let bad = is in cc)
+
+-- each book that was read is one whose polygons are a page and whose curves are on it
+pub read_is_book : (bytes : List ℕ) (book : Book) → book_read bytes ≡ Some book → IsBook book
+read_is_book bytes book is = by_value (value_of bytes) (length bytes) book (refusal_of bytes) refl is
+
+-- a page of no more than one polygon has one
+pub one_polygon : (page : List (List Label)) → IsPage page → nat_lt 1 (length page) ≡ false → length page ≡ 1
+one_polygon page valid few =
+    let rules = none_refuses (refusals page) valid in
+    let some = eqb-false (length page) 0 (holds_where_none (eqb (length page) 0) NoPolygon rules.0) in
+    omega (arith, some, ltb-false 1 (length page) few)

@@ -1,0 +1,34 @@
+// The open book that a document gives.
+
+use crate::entries::Limits;
+use curve_paths::{Cross, PageCurve};
+use obd_base::{Items, Name, SideNo};
+use page_surface::Page;
+
+/// A curve of a book: its name, its crossings in order, and the curve on the page that they make.
+#[derive(Drop)]
+pub struct NamedCurve {
+    pub name: Name,
+    pub path: Items<Cross>,
+    pub curve: PageCurve,
+}
+
+/// An entry of the twist word: the number of a curve, counted from 0, and the power, from -64 to 64 and not 0.
+/// A power `n` is `|n|` single twists, positive ones where `n` is above 0.
+#[derive(Clone, Copy, Debug, PartialEq, Eq)]
+pub struct Twist {
+    pub curve: u32,
+    pub power: i32,
+}
+
+/// An open book as its document gives it: a page, curves on it, the twist word, whose first entry is applied
+/// first, the slides, and the limits of a run.
+#[derive(Drop)]
+pub struct Book {
+    pub polygons: Items<Items<Name>>,
+    pub page: Page,
+    pub curves: Items<NamedCurve>,
+    pub twists: Items<Twist>,
+    pub slides: Items<SideNo>,
+    pub limits: Limits,
+}
