@@ -5,6 +5,8 @@ use Rattle.page_surface.specs.Drawing.{Chord, Drawing, IsEmbedded, all_exits, ch
 use Rattle.page_surface.specs.Polygon.{arc_count}
 use Rattle.drawing.specs.Cut.{IsCut}
 use Rattle.drawing.specs.Pieces.{piece_of, pieces, same_piece, span_count}
+use Rattle.drawing.specs.Reading.{Says}
+use Rattle.drawing.specs.declared.refusal.DrawRefusal.TheVariants.{NotCut}
 use Rattle.drawing.specs.Round.{next_span, previous_span, rounds}
 use Rattle.drawing.proofs.SamePiece.{same_piece_refl, same_piece_sym}
 use Rattle.drawing.proofs.ChordTree.{after_low_first, first_after_low}
@@ -75,6 +77,10 @@ on_again d ok s l = Orbits.next_previous d ok s l
 -- an embedded drawing is cut
 pub always_cut : (d : Drawing) → IsEmbedded d → IsCut d
 always_cut d ok = CutAlways.always_cut d ok
+
+-- so nothing is refused as not cut
+pub never_uncut : (d : Drawing) (reached all : ℕ) → Says d (NotCut reached all) → ⊥
+never_uncut d reached all says = says.1 (CutAlways.always_cut d says.0)
 
 -- as many pieces as chords, and one more
 pub one_more_piece : (d : Drawing) → IsEmbedded d → length (pieces d) ≡ suc (length (chords d))

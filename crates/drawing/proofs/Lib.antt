@@ -4,13 +4,23 @@ mod CutAlways
 mod Diagram
 mod Ends
 pub mod Examples
+mod Filled
 pub mod Generators
+mod IdentityEmbedded
+mod IdentityTables
+mod KeptTables
 pub mod Laws
+mod LayoutTables
 pub mod Lists
 mod Mates
 mod Orbits
 mod PieceCount
 mod Placed
 pub mod SamePiece
+mod Hits
 mod Spots
+mod StackSweep
+mod StrandTables
+mod SweepTables
+mod SweepTest
 pub mod Tests

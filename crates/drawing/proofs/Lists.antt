@@ -27,6 +27,12 @@ mem_row [] i x m = absurd m
 mem_row (r ∷ rows) zero x m = mem_left x r (flat_map (λ s. s) rows) m
 mem_row (r ∷ rows) (suc i) x m = mem_right x r (flat_map (λ s. s) rows) (mem_row rows i x m)
 
+-- what is read of a list is a member
+pub mem_at : {X : Type 0} (xs : List X) (i : ℕ) (x : X) → i < length xs → x ≡ get_or xs i x → Mem x xs
+mem_at [] i x l e = absurd (omega arith)
+mem_at (y ∷ xs) zero x l e = inl e
+mem_at (y ∷ xs) (suc i) x l e = inr (mem_at xs i x (omega arith) e)
+
 -- a map takes members to members
 pub mem_to_map : {A B : Type 0} (f : A → B) (x : A) (xs : List A) → Mem x xs → Mem (f x) (map f xs)
 mem_to_map f x [] m = absurd m

@@ -1,6 +1,12 @@
+pub mod Counted
 pub mod Cut
 pub mod Fingers
+pub mod Kept
+pub mod Layout
 pub mod Pieces
 pub mod Points
+pub mod Reading
 pub mod Round
+pub mod Strands
+pub mod Sweep
 pub mod Tight

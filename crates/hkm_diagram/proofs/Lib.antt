@@ -8,4 +8,3 @@ pub mod IdentityColumns
 mod IdentityDomains
 mod IdentityPieces
 pub mod Laws
-mod Seen

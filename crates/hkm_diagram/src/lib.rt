@@ -1,69 +1,83 @@
 //! The diagram of an open book with its arc basis, and the contact points: one point on each arc, which
 //! together are the contact generator. After Honda, Kazez and Matić (2009), with the short strips collapsed.
 //!
-//! For now the diagram is that of the identity drawing, in which strand `i` crosses arc `i` once.
+//! A diagram is a drawing, read through its points: those of an arc are its crossing points, numbered along the
+//! arc's first side from the start, and then its contact point.
 #![tactic(auto)]
 
 ghost use Rattle.std.specs.Prelude.{◌≡◌, ◌<◌, ◌≤◌, suc, IfOk};
+ghost use Rattle.std.specs.Borrow.{Lends, sem};
 ghost use Rattle.drawing.specs.Points.{crossings_of, strand_of};
-ghost use Rattle.page_surface.specs.Drawing.{Drawing, identity, strand_exits};
-ghost use Rattle.page_surface.specs.Polygon.{arc_count};
+ghost use Rattle.drawing.specs.contracts.drawing.Drawing.{the_row as drawing_row};
+ghost use Rattle.hkm_diagram.specs.contracts.Diagram.{the_row as diagram_row};
+ghost use Rattle.page_surface.specs.Drawing.{identity};
+ghost use Rattle.page_surface.specs.Polygon.{arc_count, first_side, sides};
 
-use obd_base::{ArcNo, Exit, Items, NoMemory, Point, StrandNo};
+use drawing::Drawing;
+use obd_base::{ArcNo, NoMemory, Point, SideNo, StrandNo};
 use page_surface::Polygon;
 use std::alloc::Global;
 use std::marker::Model;
 
-/// A diagram. Contracts see it as its drawing, a polygon and the exits of each strand. Its type keeps, for
-/// now, that this is the identity drawing.
+/// A diagram. Contracts see it as its drawing.
 #[derive(Drop)]
 pub struct Diagram {
-    polygon: Polygon,
-    strands: Items<Items<Exit>>,
+    drawing: Drawing,
 }
 
 impl Model for Diagram {
-    ghost use Rattle.std.specs.Prelude.{◌≡◌};
-    ghost use Rattle.page_surface.specs.Drawing.{Drawing, identity};
-    ghost use Rattle.page_surface.specs.Polygon.{IsPolygon};
+    ghost use Rattle.page_surface.specs.Drawing.{Drawing as Shown};
 
-    ghost Value = { Drawing };
+    ghost Value = { Shown };
 
-    ghost view = { λ d. record { polygon = d.polygon; strands = d.strands } };
-
-    ghost invariant = { λ d. IsPolygon d.polygon × (d.strands ≡ (identity d.polygon).strands) };
+    ghost view = { λ d. d.drawing };
 }
 
 /// The diagram of the identity drawing. Linear in the sides.
 pub fn first(alloc: Global, polygon: &Polygon) -> Result<Diagram, NoMemory>
     ensures { IfOk result (λ diagram. diagram ≡ identity polygon.now) }
 {
-    let mut strands = Items::new(alloc);
-    for arc in 0..polygon.sides() / 2 {
-        let first_side = polygon.first_side(ArcNo::new(arc));
-        let mut exits = Items::new(alloc);
-        exits.push(Exit {
-            side: polygon.pair(first_side),
-            place: 0,
-        })?;
-        strands.push(exits)?;
-    }
-    Ok(Diagram {
-        polygon: polygon.copy()?,
-        strands,
-    })
+    Ok(Diagram::of(Drawing::identity(alloc, polygon)?))
 }
 
 impl Diagram {
-    /// The number of points of an arc, its contact point among them. Constant time, as are the calls below;
-    /// all take no memory.
+    /// The diagram of a drawing, which is taken over. Constant time, as are the calls below; all take no memory.
+    pub fn of(drawing: Drawing) -> Diagram
+        ensures { result ≡ drawing }
+    {
+        Diagram { drawing }
+    }
+
+    /// Its drawing.
+    pub fn drawing(&self) -> &Drawing
+        ensures { result.now ≡ self.now }
+    {
+        &self.drawing
+    }
+
+    /// Its drawing, to be changed: the diagram is then that of the changed drawing.
+    pub fn drawing_mut(&mut self) -> &mut Drawing
+        ensures* { sem 𝓛 (Lends diagram_row drawing_row self.entry result (λ w. w)) }
+    {
+        &mut self.drawing
+    }
+
+    // The side along which the points of an arc are numbered.
+    fn side_of(&self, arc: ArcNo) -> SideNo
+        requires { arc < arc_count self.now.polygon }
+        ensures side { result ≡ first_side self.now.polygon arc }
+        ensures inside { first_side self.now.polygon arc < sides self.now.polygon }
+    {
+        let _ = self.drawing.points();
+        self.drawing.polygon().first_side(arc)
+    }
+
+    /// The number of points of an arc, its contact point among them.
     pub fn points_of(&self, arc: ArcNo) -> u32
         requires { arc < arc_count self.now.polygon }
         ensures { result ≡ suc (crossings_of self.now arc) }
     {
-        let _ = &self.polygon;
-        // Only the arc's own strand crosses it, once.
-        2
+        self.drawing.points_on(self.side_of(arc)) + 1
     }
 
     /// The strand on which a point lies.
@@ -72,8 +86,13 @@ impl Diagram {
         requires number { point.number ≤ crossings_of self.now point.arc }
         ensures { result ≡ strand_of self.now point.arc point.number }
     {
-        let _ = &self.polygon;
-        StrandNo::new(point.arc.number())
+        let side = self.side_of(point.arc);
+        if point.number < self.drawing.points_on(side) {
+            self.drawing.strand_at(side, point.number)
+        } else {
+            // The contact point lies on the strand of its own arc.
+            StrandNo::new(point.arc.number())
+        }
     }
 
     /// The contact point of an arc, which is the last of its points.
@@ -81,15 +100,9 @@ impl Diagram {
         requires { arc < arc_count self.now.polygon }
         ensures { result ≡ record { arc = arc; number = crossings_of self.now arc } }
     {
-        let _ = &self.polygon;
-        Point { arc, number: 1 }
-    }
-
-    /// The points by which a strand leaves the polygon, in order.
-    pub fn exits(&self, strand: StrandNo) -> &[Exit]
-        requires { strand < arc_count self.now.polygon }
-        ensures { result.now ≡ strand_exits self.now strand }
-    {
-        self.strands.as_slice()[strand.number() as usize].as_slice()
+        Point {
+            arc,
+            number: self.drawing.points_on(self.side_of(arc)),
+        }
     }
 }

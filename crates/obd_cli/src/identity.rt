@@ -44,11 +44,11 @@ pub(crate) fn basis(alloc: Global, polygon: &Polygon) -> Result<Items<ArcNo>, No
 }
 
 // The exits of a strand, as a list of its own.
-fn strand(alloc: Global, diagram: &Diagram, strand: StrandNo) -> Result<Items<Exit>, NoMemory>
+fn strand(diagram: &Diagram, strand: StrandNo) -> Result<Items<Exit>, NoMemory>
     requires { strand < arc_count diagram.now.polygon }
     ensures { IfOk result (λ exits. exits ≡ strand_exits diagram.now strand) }
 {
-    Ok(Items::from_vec(Vec::from_slice(alloc, diagram.exits(strand))?))
+    Ok(Items::from_vec(diagram.drawing().exits(strand)?))
 }
 
 // The exits of the first strands, so many of them.
@@ -58,7 +58,7 @@ fn strands(alloc: Global, diagram: &Diagram, count: u32) -> Result<Items<Items<E
 {
     let mut strands = Items::new(alloc);
     for number in 0..count {
-        strands.push(strand(alloc, diagram, StrandNo::new(number))?)?;
+        strands.push(strand(diagram, StrandNo::new(number))?)?;
     }
     Ok(strands)
 }

@@ -10,6 +10,8 @@ mod curves;
 #[cfg(test)]
 mod documents;
 #[cfg(test)]
+mod drawings;
+#[cfg(test)]
 mod making;
 #[cfg(test)]
 mod pages;

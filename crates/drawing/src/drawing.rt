@@ -1,0 +1,139 @@
+// A drawing and what it tells of itself.
+ghost use Rattle.std.specs.Prelude.{◌≡◌, ◌<◌, ◌≤◌, ◌^◌, suc, map, length, slice_get, IfOk};
+ghost use Rattle.std.specs.List.{flat_map};
+ghost use Rattle.page_surface.specs.Drawing.{IsEmbedded, all_exits, points_on, strand_exits};
+ghost use Rattle.page_surface.specs.Polygon.{arc_count, sides};
+ghost use Rattle.drawing.specs.Strands.{strand_at};
+
+use crate::layout::Layout;
+use crate::strands::strand_table;
+use obd_base::{Exit, Items, NoMemory, SideNo, StrandNo};
+use page_surface::Polygon;
+use std::alloc::Global;
+use std::marker::Model;
+
+/// Strands in a polygon, one for each arc, of which no two chords cross. Strand `i` runs from the end of the
+/// second side of arc `i` to the end of its first side, and is cut at its exits; a strand with `m` exits has
+/// `m + 1` chords, numbered from 0 along it. Places on a side are counted from 0 from the side's start, the
+/// exits and the entries together. Contracts see a drawing as its polygon and the list of exits of each strand.
+/// Its type keeps that the drawing is embedded and has fewer than 2^28 points.
+#[derive(Drop)]
+pub struct Drawing {
+    alloc: Global,
+    layout: Layout,
+    points: u32,
+    strands_at: Items<StrandNo>,
+}
+
+impl Model for Drawing {
+    ghost use Rattle.page_surface.specs.Drawing.{Drawing as Shown};
+    ghost use Rattle.drawing.specs.Kept.{IsKept};
+
+    ghost Value = { Shown };
+
+    ghost view = { λ d. d.layout };
+
+    ghost invariant = { λ d. IsKept d.layout d.points d.strands_at };
+}
+
+// How many exits some strands have together. There are at most 8 strands.
+fn exit_count(strands: &[Items<Exit>]) -> u32
+    requires { length (flat_map (λ strand. strand) strands.now) < 2 ^ 28 }
+    ensures { result ≡ length (flat_map (λ strand. strand) strands.now) }
+{
+    let mut count: u32 = 0;
+    for strand in strands {
+        count += strand.len() as u32;
+    }
+    count
+}
+
+impl Drawing {
+    // The drawing that is laid out. Linear in the exits and sides.
+    pub(crate) fn of(alloc: Global, layout: Layout) -> Result<Drawing, NoMemory>
+        requires embedded { IsEmbedded layout }
+        requires few { length (all_exits layout) < 2 ^ 28 }
+        ensures { IfOk result (λ drawing. drawing ≡ layout) }
+    {
+        let strands_at = strand_table(alloc, &layout)?;
+        let points = exit_count(layout.strands());
+        Ok(Drawing {
+            alloc,
+            layout,
+            points,
+            strands_at,
+        })
+    }
+
+    /// The polygon in which the strands lie. Constant time, as are the calls below but `word` and `exits`; all
+    /// but these take no memory.
+    pub fn polygon(&self) -> &Polygon
+        ensures { result.now ≡ self.now.polygon }
+    {
+        self.layout.polygon()
+    }
+
+    /// The number of crossing points: of all exits together.
+    pub fn points(&self) -> u32
+        ensures value { result ≡ length (all_exits self.now) }
+        ensures few { result < 2 ^ 28 }
+        ensures valid { IsEmbedded self.now }
+    {
+        self.points
+    }
+
+    /// The number of points on a side: of the exits and entries there.
+    pub fn points_on(&self, side: SideNo) -> u32
+        requires { side < sides self.now.polygon }
+        ensures value { result ≡ points_on self.now side }
+        ensures few { result < 2 ^ 30 }
+    {
+        self.layout.points_on(side)
+    }
+
+    /// The number of chords of a strand: one more than its exits.
+    pub fn chords(&self, strand: StrandNo) -> u32
+        requires { strand < arc_count self.now.polygon }
+        ensures { result ≡ suc (length (strand_exits self.now strand)) }
+    {
+        self.layout.exits(strand).len() as u32 + 1
+    }
+
+    /// The exit at which a chord ends, and `None` exactly for the last chord of the strand.
+    pub fn exit(&self, strand: StrandNo, chord: u32) -> Option<Exit>
+        requires strand { strand < arc_count self.now.polygon }
+        requires chord { chord ≤ length (strand_exits self.now strand) }
+        ensures { result ≡ slice_get (strand_exits self.now strand) chord }
+    {
+        self.layout.exits(strand).get(chord as usize).copied()
+    }
+
+    /// The strand that has its exit or its entry at a place of a side.
+    pub fn strand_at(&self, side: SideNo, place: u32) -> StrandNo
+        requires side { side < sides self.now.polygon }
+        requires place { place < points_on self.now side }
+        ensures { result ≡ strand_at self.now side place }
+    {
+        self.strands_at.as_slice()[self.layout.spot(Exit { side, place }) as usize]
+    }
+
+    /// The word of a strand: the sides by which it leaves, in order. Linear in the exits of the strand.
+    pub fn word(&self, strand: StrandNo) -> Result<Vec<SideNo>, NoMemory>
+        requires { strand < arc_count self.now.polygon }
+        ensures { IfOk result (λ word. word.items ≡ map (λ e. e.side) (strand_exits self.now strand)) }
+    {
+        let mut word = Vec::new(self.alloc);
+        for exit in self.layout.exits(strand) {
+            word.push(exit.side)?;
+        }
+        Ok(word)
+    }
+
+    /// The exits of a strand, in order. Linear in them.
+    pub fn exits(&self, strand: StrandNo) -> Result<Vec<Exit>, NoMemory>
+        requires { strand < arc_count self.now.polygon }
+        ensures { IfOk result (λ exits. exits.items ≡ strand_exits self.now strand) }
+    {
+        Ok(Vec::from_slice(self.alloc, self.layout.exits(strand))?)
+    }
+}

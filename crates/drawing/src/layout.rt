@@ -1,0 +1,131 @@
+// A written drawing with its place order.
+ghost use Rattle.std.specs.Prelude.{◌≡◌, ◌+◌, ◌<◌, ◌≤◌, ◌^◌, true, length, nat_lt, IfOk};
+ghost use Rattle.std.specs.List.{list_all};
+ghost use Rattle.page_surface.specs.Drawing.{all_exits, end_of, entry, points_on, spot, strand_exits};
+ghost use Rattle.page_surface.specs.Polygon.{arc_count, sides};
+ghost use Rattle.drawing.specs.Layout.{IsWritten, drawn};
+ghost use Rattle.drawing.specs.Pieces.{span_count};
+
+use crate::counts::{joined, offsets, side_counts};
+use obd_base::{Exit, Items, NoMemory, SideNo, StrandNo};
+use page_surface::Polygon;
+use std::alloc::Global;
+use std::marker::Model;
+
+// A drawing as it is written, right or not: a strand for each arc, with exits on sides of the polygon, fewer than
+// 2^28 of them. It knows where each side begins in the place order, so that a point has its number in constant
+// time. No call but `of` takes memory.
+#[derive(Drop)]
+pub(crate) struct Layout {
+    polygon: Polygon,
+    strands: Items<Items<Exit>>,
+    offsets: Items<u32>,
+}
+
+impl Model for Layout {
+    ghost use Rattle.page_surface.specs.Drawing.{Drawing as Shown};
+    ghost use Rattle.drawing.specs.Layout.{IsLaidOut};
+
+    ghost Value = { Shown };
+
+    ghost view = { λ l. record { polygon = l.polygon; strands = l.strands } };
+
+    ghost invariant = { λ l. IsLaidOut (record { polygon = l.polygon; strands = l.strands }) l.offsets };
+}
+
+impl Layout {
+    // Linear in the exits and sides.
+    pub(crate) fn of(
+        alloc: Global,
+        polygon: Polygon,
+        strands: Items<Items<Exit>>,
+    ) -> Result<Layout, NoMemory>
+        requires strands { length strands ≡ arc_count polygon }
+        requires on_sides { list_all (λ e. nat_lt e.side (sides polygon)) (all_exits (drawn polygon strands)) ≡ true }
+        requires few { length (all_exits (drawn polygon strands)) < 2 ^ 28 }
+        ensures { IfOk result (λ layout. layout ≡ drawn polygon strands) }
+    {
+        let _ = polygon.sides();
+        let exits = joined(alloc, strands.as_slice())?;
+        let counts = side_counts(alloc, &polygon, &exits)?;
+        let offsets = offsets(alloc, &counts)?;
+        Ok(Layout {
+            polygon,
+            strands,
+            offsets,
+        })
+    }
+
+    pub(crate) fn polygon(&self) -> &Polygon
+        ensures value { result.now ≡ self.now.polygon }
+        ensures written { IsWritten self.now }
+    {
+        &self.polygon
+    }
+
+    // The exits of each strand.
+    pub(crate) fn strands(&self) -> &[Items<Exit>]
+        ensures { result.now ≡ self.now.strands }
+    {
+        self.strands.as_slice()
+    }
+
+    pub(crate) fn exits(&self, strand: StrandNo) -> &[Exit]
+        requires { strand < arc_count self.now.polygon }
+        ensures { result.now ≡ strand_exits self.now strand }
+    {
+        self.strands.as_slice()[strand.number() as usize].as_slice()
+    }
+
+    // How many numbers the place order has.
+    pub(crate) fn span_count(&self) -> u32
+        ensures value { result ≡ span_count self.now }
+        ensures few { result < 2 ^ 30 }
+    {
+        self.offsets.as_slice()[self.polygon.sides() as usize]
+    }
+
+    // The number of points on a side.
+    pub(crate) fn points_on(&self, side: SideNo) -> u32
+        requires { side < sides self.now.polygon }
+        ensures value { result ≡ points_on self.now side }
+        ensures few { result < 2 ^ 30 }
+    {
+        let offsets = self.offsets.as_slice();
+        let side = side.number() as usize;
+        offsets[side + 1] - offsets[side] - 2
+    }
+
+    // The number of a point, or of the end of a side.
+    pub(crate) fn spot(&self, exit: Exit) -> u32
+        requires side { exit.side < sides self.now.polygon }
+        requires place { exit.place ≤ points_on self.now exit.side }
+        ensures value { result ≡ spot self.now exit }
+        ensures inside { result + 1 < span_count self.now }
+    {
+        self.offsets.as_slice()[exit.side.number() as usize] + exit.place
+    }
+
+    // The entry that belongs to an exit.
+    pub(crate) fn entry(&self, exit: Exit) -> Exit
+        requires side { exit.side < sides self.now.polygon }
+        requires place { exit.place < points_on self.now exit.side }
+        ensures { result ≡ entry self.now exit }
+    {
+        Exit {
+            side: self.polygon.pair(exit.side),
+            place: self.points_on(exit.side) - 1 - exit.place,
+        }
+    }
+
+    // The end of a side.
+    pub(crate) fn end_of(&self, side: SideNo) -> Exit
+        requires { side < sides self.now.polygon }
+        ensures { result ≡ end_of self.now side }
+    {
+        Exit {
+            side,
+            place: self.points_on(side),
+        }
+    }
+}

@@ -1,0 +1,36 @@
+// The strand through each point.
+ghost use Rattle.std.specs.Prelude.{◌≡◌, ℕ, ◌<◌, cond, length, slice_index, IfOk};
+ghost use Rattle.page_surface.specs.Drawing.{IsPlaced, strand_exits};
+ghost use Rattle.page_surface.specs.Polygon.{arc_count};
+ghost use Rattle.drawing.specs.Pieces.{span_count};
+ghost use Rattle.drawing.specs.Strands.{IsStrandTable, meets};
+
+use crate::layout::Layout;
+use obd_base::{Items, NoMemory, StrandNo};
+use std::alloc::Global;
+
+// Sets a strand at the numbers of its exits and entries.
+fn set_strand(layout: &Layout, strand: StrandNo, table: &mut [StrandNo])
+    requires placed { IsPlaced layout.now }
+    requires strand { strand < arc_count layout.now.polygon }
+    requires size { length table.old ≡ span_count layout.now }
+    ensures { (x : ℕ) → x < span_count layout.now
+        → slice_index table.new x ≡ cond (meets layout.now (strand_exits layout.now strand) x) strand (slice_index table.old x) }
+{
+    for exit in layout.exits(strand) {
+        table[layout.spot(*exit) as usize] = strand;
+        table[layout.spot(layout.entry(*exit)) as usize] = strand;
+    }
+}
+
+// The strand at each number of the place order that is a point's. Linear in the exits and sides.
+pub(crate) fn strand_table(alloc: Global, layout: &Layout) -> Result<Items<StrandNo>, NoMemory>
+    requires { IsPlaced layout.now }
+    ensures { IfOk result (IsStrandTable layout.now) }
+{
+    let mut table = vec![in alloc; StrandNo::new(0); layout.span_count() as usize]?;
+    for strand in 0..layout.polygon().sides() / 2 {
+        set_strand(layout, StrandNo::new(strand), &mut table);
+    }
+    Ok(Items::from_vec(table))
+}

@@ -1,8 +1,0 @@
-use Rattle.std.proofs.Common.{◌≡◌, [], ◌∷◌, map}
-use Rattle.page_surface.specs.Drawing.{exit}
-use Rattle.obd_base.specs.Lists.{below}
-use Rattle.page_surface.specs.Polygon.{second_side}
-use Rattle.hkm_diagram.proofs.first.Given as goal
-
-abbrev pub invariant-loop-arc : goal.invariant-loop-arc
-invariant-loop-arc l = l.strands ≡ map (λ i. exit (second_side l.polygon i) 0 ∷ []) (below l.arc)
