@@ -18,6 +18,7 @@ mod PieceCount
 mod Placed
 pub mod SamePiece
 mod Hits
+mod SpanTests
 mod Spots
 mod StackSweep
 mod StrandTables

@@ -16,13 +16,13 @@ use Rattle.drawing.proofs.Lists.{first_is, mem_at, mem_row}
 use Rattle.drawing.proofs.Placed.{exit_at, exit_stands, inside, place_in-placed, same_count-placed, side_in-placed, spot_test}
 
 -- a member that passes is found
-any_of : {X : Type 0} (p : X → Bool) (x : X) (xs : List X) → Mem x xs → p x ≡ true → list_any p xs ≡ true
+pub any_of : {X : Type 0} (p : X → Bool) (x : X) (xs : List X) → Mem x xs → p x ≡ true → list_any p xs ≡ true
 any_of p x [] m h = absurd m
 any_of p x (y ∷ xs) (inl e) h = let k : p y ≡ true = ap p (sym e) ∙ h in rw k refl
 any_of p x (y ∷ xs) (inr m) h = elim (cases_Bool (p y)) [ inl k ↦ rw k refl | inr k ↦ rw k (any_of p x xs m h) ]
 
 -- and what is found is a member
-any_found : {X : Type 0} (p : X → Bool) (xs : List X) → list_any p xs ≡ true → (x : X) × Mem x xs × (p x ≡ true)
+pub any_found : {X : Type 0} (p : X → Bool) (xs : List X) → list_any p xs ≡ true → (x : X) × Mem x xs × (p x ≡ true)
 any_found p [] h = absurd (false≢true h)
 any_found p (y ∷ xs) h = elim (cases_Bool (p y)) [
   | inl k ↦ (y, inl refl, k)

@@ -92,7 +92,7 @@ strand_more d from e next z exits i c old after all l is chord enters grown so_f
     ∙ (append_assoc old (c ∷ []) (cut_strand d next (drop (i + 1) exits) z) ∙ (ap (λ (xs : List Chord). old ++ xs) (sym cut) ∙ so_far))
 
 -- joined lists of a list and of one more
-flat_push : {X : Type 0} (f : ℕ → List X) (xs : List ℕ) (n : ℕ) → flat_map f (xs ++ n ∷ []) ≡ flat_map f xs ++ f n
+pub flat_push : {X : Type 0} (f : ℕ → List X) (xs : List ℕ) (n : ℕ) → flat_map f (xs ++ n ∷ []) ≡ flat_map f xs ++ f n
 flat_push f [] n = append-nil (f n)
 flat_push f (x ∷ xs) n = ap (λ ys. f x ++ ys) (flat_push f xs n) ∙ sym (append_assoc (f x) (flat_map f xs) (f n))
 

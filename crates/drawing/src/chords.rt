@@ -3,7 +3,7 @@ ghost use Rattle.std.specs.Prelude.{◌≡◌, ℕ, ◌<◌, ◌≤◌, ◌^◌,
 ghost use Rattle.obd_base.specs.Lists.{Mem, below};
 ghost use Rattle.page_surface.specs.Drawing.{Chord as Shown, IsPlaced, chords, no_two_cross, spot, strand_chords, points_on};
 ghost use Rattle.page_surface.specs.Polygon.{arc_count, sides};
-ghost use Rattle.drawing.specs.Pieces.{span_count};
+ghost use Rattle.drawing.specs.Pieces.{separates, span_count};
 ghost use Rattle.drawing.specs.Round.{other_end};
 ghost use Rattle.drawing.specs.Sweep.{swept};
 
@@ -29,8 +29,17 @@ impl Model for Chord {
     ghost inverse = { λ c. record { from = c.from; to = c.to } };
 }
 
+impl Chord {
+    // Whether exactly one of two spans is met on the way between the chord's ends.
+    pub(crate) fn separates(self, one: u32, other: u32) -> bool
+        ensures { result ≡ separates self one other }
+    {
+        ((self.from < one) != (self.to < one)) != ((self.from < other) != (self.to < other))
+    }
+}
+
 // The chord between two places.
-fn chord_between(layout: &Layout, from: Exit, to: Exit) -> Chord
+pub(crate) fn chord_between(layout: &Layout, from: Exit, to: Exit) -> Chord
     requires from_side { from.side < sides layout.now.polygon }
     requires from_place { from.place ≤ points_on layout.now from.side }
     requires to_side { to.side < sides layout.now.polygon }

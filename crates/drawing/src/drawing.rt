@@ -1,11 +1,13 @@
 // A drawing and what it tells of itself.
 ghost use Rattle.std.specs.Prelude.{◌≡◌, ◌<◌, ◌≤◌, ◌^◌, suc, map, length, slice_get, IfOk};
 ghost use Rattle.std.specs.List.{flat_map};
-ghost use Rattle.page_surface.specs.Drawing.{IsEmbedded, all_exits, points_on, strand_exits};
+ghost use Rattle.page_surface.specs.Drawing.{IsEmbedded, all_exits, exit, points_on, spot, strand_exits};
 ghost use Rattle.page_surface.specs.Polygon.{arc_count, sides};
+ghost use Rattle.drawing.specs.Fingers.{borders, chord_at};
 ghost use Rattle.drawing.specs.Strands.{strand_at};
 
 use crate::layout::Layout;
+use crate::pieces::{chord_start, same_piece};
 use crate::strands::strand_table;
 use obd_base::{Exit, Items, NoMemory, SideNo, StrandNo};
 use page_surface::Polygon;
@@ -65,8 +67,8 @@ impl Drawing {
         })
     }
 
-    /// The polygon in which the strands lie. Constant time, as are the calls below but `word` and `exits`; all
-    /// but these take no memory.
+    /// The polygon in which the strands lie. Constant time, as are the calls below but `pieces_share`, `word`
+    /// and `exits`; all but the last two take no memory.
     pub fn polygon(&self) -> &Polygon
         ensures { result.now ≡ self.now.polygon }
     {
@@ -115,6 +117,21 @@ impl Drawing {
         ensures { result ≡ strand_at self.now side place }
     {
         self.strands_at.as_slice()[self.layout.spot(Exit { side, place }) as usize]
+    }
+
+    /// Whether a chord borders the piece of a segment: whether that is the piece on the one side of the chord or on
+    /// the other. Segment `j` of a side lies just before its point `j`, and the last one between the last point and
+    /// the end of the side; two segments lie in one piece where no chord separates them. Linear in the exits.
+    pub fn pieces_share(&self, strand: StrandNo, chord: u32, side: SideNo, segment: u32) -> bool
+        requires strand { strand < arc_count self.now.polygon }
+        requires chord { chord ≤ length (strand_exits self.now strand) }
+        requires side { side < sides self.now.polygon }
+        requires segment { segment ≤ points_on self.now side }
+        ensures { result ≡ borders self.now (chord_at self.now strand chord) (spot self.now (exit side segment)) }
+    {
+        let start = self.layout.spot(chord_start(&self.layout, strand, chord));
+        let segment = self.layout.spot(Exit { side, place: segment });
+        same_piece(&self.layout, start, segment) || same_piece(&self.layout, start + 1, segment)
     }
 
     /// The word of a strand: the sides by which it leaves, in order. Linear in the exits of the strand.

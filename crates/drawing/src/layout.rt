@@ -102,6 +102,7 @@ impl Layout {
         requires place { exit.place ≤ points_on self.now exit.side }
         ensures value { result ≡ spot self.now exit }
         ensures inside { result + 1 < span_count self.now }
+        ensures few { result + 1 < 2 ^ 30 }
     {
         self.offsets.as_slice()[exit.side.number() as usize] + exit.place
     }

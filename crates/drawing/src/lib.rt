@@ -12,6 +12,7 @@ mod counts;
 mod drawing;
 mod identity;
 mod layout;
+mod pieces;
 mod places;
 mod read;
 mod refusal;

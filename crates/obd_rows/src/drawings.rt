@@ -5,7 +5,7 @@ ghost use Rattle.page_surface.specs.Polygon.{sides};
 
 use crate::making::page_of;
 use arc_basis::join;
-use drawing::Drawing;
+use drawing::{DrawRefusal, Drawing};
 use hkm_diagram::first;
 use obd_base::{Exit, NoMemory, SideNo, StrandNo};
 use page_surface::Polygon;
@@ -101,8 +101,12 @@ fn exits_text(alloc: Global, drawing: &Drawing) -> Result<String, Fail> {
     Ok(text)
 }
 
-// The exits of the drawing that is read, or the refusal.
-fn answer(alloc: Global, polygon: &Polygon, text: &str) -> Result<String, Fail> {
+// The drawing that is read, or the refusal.
+fn read(
+    alloc: Global,
+    polygon: &Polygon,
+    text: &str,
+) -> Result<Result<Drawing, DrawRefusal>, Fail> {
     let strands = strands_of(alloc, text)?;
     let Ok(exits) = joined(alloc, &strands) else {
         return Err(Fail::new("no memory"));
@@ -113,7 +117,12 @@ fn answer(alloc: Global, polygon: &Polygon, text: &str) -> Result<String, Fail> 
     if !are_on_sides(polygon, &exits) {
         return Err(Fail::new("no such side"));
     }
-    match Drawing::read(alloc, polygon, &strands) {
+    Ok(Drawing::read(alloc, polygon, &strands))
+}
+
+// The exits of the drawing that is read, or the refusal.
+fn answer(alloc: Global, polygon: &Polygon, text: &str) -> Result<String, Fail> {
+    match read(alloc, polygon, text)? {
         Ok(drawing) => exits_text(alloc, &drawing),
         Err(refusal) => Ok(format!(in alloc; "{refusal:?}")?),
     }
@@ -131,8 +140,8 @@ fn exits_are_read(rt: HostRuntime) -> Result<(), Fail> {
             "2.0 | 3.0 | 6.0 | 7.0 | 9.0 ",
         ),
         ("AA", "", ""),
-        ("AA", "1.1 1.0", "1.1 1.0 "),
         ("AA", "1.0 1.1", "Crosses"),
+        ("ABAB", "3.1 3.0 | 0.0", "Crosses"),
         ("ABAB", "|", "Crosses"),
         (
             "ABAB",
@@ -170,6 +179,42 @@ fn counts_text(alloc: Global, drawing: &Drawing) -> Result<String, Fail> {
         }
     }
     Ok(text)
+}
+
+#[test]
+fn printed_drawings_tell_of_themselves(rt: HostRuntime) -> Result<(), Fail> {
+    let alloc = rt.alloc();
+    for (page, exits, counts) in [
+        ("AA", "1.1 1.0 ", "2 points, on sides 2 2; 3 chords 1 1"),
+        (
+            "ABAB",
+            "3.0 3.1 | 0.0 ",
+            "3 points, on sides 1 2 1 2; 3 chords 3 3; 2 chords 0",
+        ),
+        (
+            "ABAB",
+            "1.1 | 3.2 3.0 ",
+            "3 points, on sides 0 3 0 3; 2 chords 1; 3 chords 3 3",
+        ),
+        (
+            "ABAB",
+            "3.0 2.1 1.2 1.3 2.3 3.5 | 0.0 3.1 2.2 3.4 0.4 ",
+            "11 points, on sides 5 6 5 6; 7 chords 3 2 1 1 2 3; 6 chords 0 3 2 3 0",
+        ),
+        (
+            "ABACBDCD",
+            "3.0 7.1 4.0 | 5.0 6.0 | 7.0 | ",
+            "6 points, on sides 0 1 0 2 1 3 2 3; 4 chords 3 7 4; 3 chords 5 6; 2 chords 7; 1 chords",
+        ),
+    ] {
+        let polygon = polygon_of(alloc, page)?;
+        let Ok(drawing) = read(alloc, &polygon, exits)? else {
+            return Err(Fail::new("refused"));
+        };
+        assert_eq!(rt; exits_text(alloc, &drawing)?.as_str(), exits);
+        assert_eq!(rt; counts_text(alloc, &drawing)?.as_str(), counts);
+    }
+    Ok(())
 }
 
 #[test]

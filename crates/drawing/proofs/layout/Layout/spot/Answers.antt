@@ -21,3 +21,8 @@ pub returns-clause-inside : goal.returns-clause-inside
 returns-clause-inside c =
     let k = spot_read _ _ c.self.view_is _ c.self.invariant _ _ c.number.ensures.value c.requires.side in
     rw c.as_slice.ensures (spot_inside c.args.self.now c.args.exit.side _ _ c.requires.side c.requires.place k.0)
+
+pub returns-clause-few : goal.returns-clause-few
+returns-clause-few c =
+    let k = spot_read _ _ c.self.view_is _ c.self.invariant _ _ c.number.ensures.value c.requires.side in
+    rw c.as_slice.ensures (omega (arith, k, c.requires.place))
