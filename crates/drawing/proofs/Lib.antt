@@ -15,7 +15,9 @@ pub mod Lists
 mod Mates
 mod Orbits
 mod PieceCount
+mod PieceTrees
 mod Placed
+mod RoundPiece
 pub mod SamePiece
 mod Hits
 mod Spots
