@@ -1,25 +1,19 @@
 -- Laws of pieces: they are classes of spans, named by their first spans, as many as chords and one more, and glued together they are one.
--- They form a tree with the chords and one with the glued segments, and the boundary of each that isn't base is segments and chords in turn.
-use Rattle.std.proofs.Common.{◌≡◌, ◌≢◌, ℕ, suc, ◌+◌, ◌<◌, ◌≤◌, true, false, List, map, length, min}
+use Rattle.std.proofs.Common.{◌≡◌, ℕ, suc, ◌+◌, ◌<◌, ◌≤◌, true, false, length, min}
 use Rattle.obd_base.specs.Lists.{Mem}
 use Rattle.page_surface.specs.Drawing.{Chord, Drawing, IsEmbedded, all_exits, chords}
-use Rattle.page_surface.specs.Polygon.{arc_count, sides}
-use Rattle.drawing.specs.Boundary.{IsBoundary, Leads, Stretch}
+use Rattle.page_surface.specs.Polygon.{arc_count}
 use Rattle.drawing.specs.Cut.{IsCut}
-use Rattle.drawing.specs.Fingers.{borders}
-use Rattle.drawing.specs.Pieces.{gap, is_base, piece_of, pieces, same_piece, span_count}
+use Rattle.drawing.specs.Pieces.{piece_of, pieces, same_piece, span_count}
 use Rattle.drawing.specs.Reading.{Says}
 use Rattle.drawing.specs.declared.refusal.DrawRefusal.TheVariants.{NotCut}
-use Rattle.drawing.specs.Round.{next_segment, next_span, previous_span, rounds}
-use Rattle.drawing.specs.Trees.{IsTree, chord_links, glued_links}
+use Rattle.drawing.specs.Round.{next_span, previous_span, rounds}
 use Rattle.drawing.proofs.SamePiece.{same_piece_refl, same_piece_sym}
 use Rattle.drawing.proofs.ChordTree.{after_low_first, first_after_low}
 use Rattle.drawing.proofs.CutAlways
 use Rattle.drawing.proofs.Diagram.{is_diagram}
 use Rattle.drawing.proofs.Orbits
 use Rattle.drawing.proofs.PieceCount
-use Rattle.drawing.proofs.PieceTrees
-use Rattle.drawing.proofs.RoundPiece
 
 -- a span lies in its own piece
 pub reflexive : (d : Drawing) (s : ℕ) → same_piece (chords d) s s ≡ true
@@ -95,46 +89,3 @@ one_more_piece d ok = PieceCount.pieces_are_first_spans d ok
 -- as many as crossing points and arcs, and one more
 pub piece_count : (d : Drawing) → IsEmbedded d → length (pieces d) ≡ length (all_exits d) + arc_count d.polygon + 1
 piece_count d ok = PieceCount.piece_count d ok
-
--- the pieces and the chords form a tree
-pub chord_tree : (d : Drawing) → IsEmbedded d → IsTree (pieces d) (chord_links d)
-chord_tree d ok = PieceTrees.chord_tree d ok
-
--- so do the pieces and the pairs of glued segments
-pub glued_tree : (d : Drawing) → IsEmbedded d → IsTree (pieces d) (glued_links d)
-glued_tree d ok = PieceTrees.glued_tree d ok
-
--- a chord has two pieces on its two sides
-pub two_sides : (d : Drawing) → IsEmbedded d → (c : Chord) → Mem c (chords d) → piece_of d c.from ≢ piece_of d (suc c.from)
-two_sides d ok c m = RoundPiece.two_sides d ok c m
-
--- at its other end the spans after and before it lie in the same two
-pub other_sides : (d : Drawing) → IsEmbedded d → (c : Chord) → Mem c (chords d)
-    → (piece_of d c.from ≡ piece_of d (suc c.to)) × (piece_of d (suc c.from) ≡ piece_of d c.to)
-other_sides d ok c m = RoundPiece.other_sides d ok c m
-
--- a piece that isn't base has a boundary of segments and chords in turn
-pub inner_boundary : (d : Drawing) → IsEmbedded d → (s : ℕ) → s < span_count d → is_base d s ≡ false
-    → (stretches : List Stretch) × IsBoundary d s stretches
-inner_boundary d ok s l inner = RoundPiece.inner_boundary d ok s l inner
-
--- it has each chord that borders the piece
-pub bordering_met : (d : Drawing) → IsEmbedded d → (s : ℕ) (stretches : List Stretch) → IsBoundary d s stretches
-    → (c : Chord) → Mem c (chords d) → borders d c s ≡ true → Mem c (map (λ p. p.chord) stretches)
-bordering_met d ok s stretches b c m h = RoundPiece.bordering_met d ok s stretches b c m h
-
--- a chord that leads on from a segment leads to the next one
-pub leads_to_next : (d : Drawing) → IsEmbedded d → (c : Chord) (s t : ℕ) → Mem c (chords d) → Leads c s t → t ≡ next_segment d s
-leads_to_next d ok c s t m h = RoundPiece.leads_to_next d ok c s t m h
-
--- which lies in the piece again where that isn't base
-pub next_in_piece : (d : Drawing) → IsEmbedded d → (s : ℕ) → s < span_count d → is_base d s ≡ false → same_piece (chords d) s (next_segment d s) ≡ true
-next_in_piece d ok s l inner = RoundPiece.next_in_piece d ok s l inner
-
--- a base piece has a gap
-pub gap_of_base : (d : Drawing) → IsEmbedded d → (s : ℕ) → is_base d s ≡ true → (k : ℕ) × (k < sides d.polygon) × (same_piece (chords d) s (gap d k) ≡ true)
-gap_of_base d ok s base = RoundPiece.gap_of_base d ok s base
-
--- at which no chord ends
-pub no_end_at_gap : (d : Drawing) → IsEmbedded d → (c : Chord) (k : ℕ) → Mem c (chords d) → (c.from ≢ gap d k) × (c.to ≢ gap d k)
-no_end_at_gap d ok c k m = RoundPiece.no_end_there d ok c k m

@@ -26,3 +26,5 @@ mod StrandTables
 mod SweepTables
 mod SweepTest
 pub mod Tests
+pub mod TreeExamples
+pub mod TreeLaws

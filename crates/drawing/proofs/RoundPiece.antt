@@ -1,7 +1,8 @@
 -- Which pieces are base, and the boundary of one that isn't: its segments in the place order, each with the chord that leads to the next.
-use Rattle.std.proofs.Common.{◌≡◌, ℕ, zero, suc, ◌+◌, ◌-◌, ◌<◌, ◌≤◌, Bool, true, false, List, [], ◌∷◌, map, filter, get_or, refl, sym, ◌∙◌, ap, subst, arith, zero-add, ◌⊎◌, inl, inr, ◌≢◌}
+use Rattle.std.proofs.Common.{◌≡◌, ℕ, zero, suc, ◌+◌, ◌-◌, ◌<◌, ◌≤◌, Bool, true, false, List, [], ◌∷◌, map, filter, length, get_or, refl, sym, ◌∙◌, ap, subst, arith, zero-add, ◌⊎◌, inl, inr, ◌≢◌}
 use Rattle.std.specs.List.{list_any, range_with_len}
-use Rattle.std.proofs.lemmas.Bool.{cases_lt, cases_eq, cases_Bool, eq-eqb, ne_eqb, false≢true, false_from_ne_true, or_cases}
+use Rattle.std.proofs.lemmas.Bool.{cases_lt, cases_eq, cases_Bool, eq-eqb, ne_eqb, false≢true, false_from_ne_true, or_cases, or_left, or_right}
+use Rattle.std.proofs.lemmas.List.{length-map}
 use Rattle.std.proofs.lemmas.List.Folds.{list_any_at}
 use Rattle.std.proofs.lemmas.List.FromFn.{get_or-map-range_with_len, length-map-range_with_len}
 use Rattle.obd_base.specs.Lists.{below, Mem, Once}
@@ -89,6 +90,10 @@ leads_from [] last h p m = absurd m
 leads_from (q ∷ ps) last h p (inl e) = (first_segment ps last, subst (λ (k : Stretch). Leads k.chord k.segment (first_segment ps last)) (sym e) h.0)
 leads_from (q ∷ ps) last h p (inr m) = leads_from ps last h.1 p m
 
+-- a boundary has a chord for each segment
+pub as_many_chords : (d : Drawing) (s : ℕ) (ps : List Stretch) → IsBoundary d s ps → length (map (λ p. p.chord) ps) ≡ length (segments_in d s)
+as_many_chords d s ps b = length-map ps (λ p. p.chord) ∙ (sym (length-map ps (λ p. p.segment)) ∙ ap length b.segments)
+
 -- a chord that joins two numbers leads from the segment that ends at the one to the segment that begins at the other
 leads_on : (c : Chord) (s x t : ℕ) → Joins c s x → suc x ≡ t → Leads c s t
 leads_on c s x t (inl (p, q)) e = inl (p, ap suc q ∙ e)
@@ -96,7 +101,7 @@ leads_on c s x t (inr (p, q)) e = inr (p, ap suc q ∙ e)
 
 module _ (d : Drawing) (ok : IsEmbedded d) where
   -- a piece with a gap is base
-  pub base_gap : (s k : ℕ) → k < sides d.polygon → same_piece (chords d) s (gap d k) ≡ true → is_base d s ≡ true
+  base_gap : (s k : ℕ) → k < sides d.polygon → same_piece (chords d) s (gap d k) ≡ true → is_base d s ≡ true
   base_gap s k l h =
       let e : get_or (gaps d) k 0 ≡ gap d k = get_or-map-range_with_len (gap d) 0 (sides d.polygon) k k 0 l (zero-add k) in
       list_any_at (same_piece (chords d) s) (gaps d) k 0 (rw length-map-range_with_len l) (rw e h)
@@ -109,7 +114,7 @@ module _ (d : Drawing) (ok : IsEmbedded d) where
       (k, mem_below (sides d.polygon) k i, subst (λ x. same_piece (chords d) s x ≡ true) q e)
 
   -- spans of one piece are base together
-  pub base_together : (s t : ℕ) → same_piece (chords d) s t ≡ true → is_base d t ≡ true → is_base d s ≡ true
+  base_together : (s t : ℕ) → same_piece (chords d) s t ≡ true → is_base d t ≡ true → is_base d s ≡ true
   base_together s t h b = let (k, l, e) = gap_of_base t b in base_gap s k l (same_then (chords d) s t (gap d k) h e)
 
   -- no chord ends at a gap
@@ -165,6 +170,21 @@ module _ (d : Drawing) (ok : IsEmbedded d) where
           | inr a ↦ elim q [ inl b ↦ absurd (apart.2 (a ∙ sym b)) | inr b ↦ absurd (apart.3 (a ∙ sym b)) ]
         ]
   ]
+
+  -- the chords of a boundary border the piece
+  pub met_borders : (s : ℕ) (ps : List Stretch) → IsBoundary d s ps → (p : Stretch) → Mem p ps → borders d p.chord s ≡ true
+  met_borders s ps b p m =
+      let cs = chords d in
+      let c = p.chord in
+      let of_piece = mem_filter (same_piece cs s) p.segment (spans d) (subst (λ xs. Mem p.segment xs) b.segments (mem_to_map (λ (p : Stretch). p.segment) p ps m)) in
+      let inside : same_piece cs p.segment s ≡ true = same_piece_sym cs s p.segment of_piece.1 in
+      let (next, leads) = leads_from ps (first_segment ps s) b.in_turn p m in
+      elim leads [
+        | inl l ↦ or_left (same_piece cs c.from s) (same_piece cs (suc c.from) s) (subst (λ x. same_piece cs x s ≡ true) (sym l.0) inside)
+        | inr l ↦
+            let across = (across_chord cs (is_diagram d ok) c (b.of_drawing p m)).1 in
+            or_right (same_piece cs c.from s) (same_piece cs (suc c.from) s) (same_then cs (suc c.from) c.to s across (subst (λ x. same_piece cs x s ≡ true) (sym l.0) inside))
+      ]
 
   -- each chord that borders a piece is one of those of its boundary
   pub bordering_met : (s : ℕ) (ps : List Stretch) → IsBoundary d s ps → (c : Chord) → Mem c (chords d) → borders d c s ≡ true → Mem c (map (λ p. p.chord) ps)
