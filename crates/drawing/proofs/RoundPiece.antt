@@ -26,7 +26,7 @@ use Rattle.drawing.proofs.Mates.{Joins, chord_cases, end_here, ends_apart, other
 use Rattle.drawing.proofs.Diagram.{at_most_one_end, is_diagram, mate, simple, which_place, chord_at_spot}
 use Rattle.drawing.proofs.CutAlways.{across_chord, chord_spans, no_end_same}
 use Rattle.drawing.proofs.PieceCount.{name_same, same_name, piece_of-same, piece_of-least, piece_of-in}
-use Rattle.drawing.proofs.Orbits.{same_then, step, last_and_first, next_same}
+use Rattle.drawing.proofs.Orbits.{same_then, step, last_and_first, next_in, next_same}
 
 -- a test that some member passes
 some_passes : {X : Type 0} (p : X → Bool) (xs : List X) → list_any p xs ≡ true → (x : X) × Mem x xs × (p x ≡ true)
@@ -244,8 +244,14 @@ module _ (d : Drawing) (ok : IsEmbedded d) where
   ]
 
   -- which lies in the piece
-  pub next_in_piece : (t : ℕ) → t < span_count d → is_base d t ≡ false → same_piece (chords d) t (next_segment d t) ≡ true
-  next_in_piece t lt inner = subst (λ x. same_piece (chords d) t x ≡ true) (next_behind t lt inner) (next_same d ok t lt)
+  same_behind : (t : ℕ) → t < span_count d → is_base d t ≡ false → same_piece (chords d) t (next_segment d t) ≡ true
+  same_behind t lt inner = subst (λ x. same_piece (chords d) t x ≡ true) (next_behind t lt inner) (next_same d ok t lt)
+
+  -- and so is one of its segments
+  pub next_in_piece : (t : ℕ) → t < span_count d → is_base d t ≡ false → Mem (next_segment d t) (segments_in d t)
+  next_in_piece t lt inner =
+      let within : next_segment d t < span_count d = subst (λ x. x < span_count d) (next_behind t lt inner) (next_in d ok t lt) in
+      filter_mem (same_piece (chords d) t) (next_segment d t) (spans d) (below_mem (span_count d) (next_segment d t) within) (same_behind t lt inner)
 
   module _ (s : ℕ) (ls : s < span_count d) (inner : is_base d s ≡ false) where
     -- in the piece
@@ -260,7 +266,7 @@ module _ (d : Drawing) (ok : IsEmbedded d) where
     listed : (t : ℕ) → Mem t (segments_in d s) → (t < span_count d) × (inside t ≡ true)
     listed t m = let r = mem_filter inside t (spans d) m in (mem_below (span_count d) t r.0, r.1)
 
-    -- spans that pass, each followed by the next one, and the last by the span 'last'
+    -- segments, each followed by the next one, and the last of them by the segment 'last'
     abbrev AreRound : List ℕ → ℕ → Type 0
     AreRound [] last = Unit {0}
     AreRound (t ∷ ts) last = (next_segment d t ≡ get_or ts 0 last) × AreRound ts last
@@ -313,7 +319,7 @@ module _ (d : Drawing) (ok : IsEmbedded d) where
       | inl e ↦ e
       | inr ne ↦
           let w = two_ends c t (mate d ok t) u (mate d ok u) join other ne in
-          let on : same_piece (chords d) t (suc u) ≡ true = subst (λ x. same_piece (chords d) t (suc x) ≡ true) (sym w) (next_in_piece t lt (inside_inner t h)) in
+          let on : same_piece (chords d) t (suc u) ≡ true = subst (λ x. same_piece (chords d) t (suc x) ≡ true) (sym w) (same_behind t lt (inside_inner t h)) in
           let over : same_piece (chords d) u t ≡ true = same_then (chords d) u s t (same_piece_sym (chords d) s u k) h in
           absurd (end_parts c u (mate d ok u) m other (same_then (chords d) u t (suc u) over on))
     ]

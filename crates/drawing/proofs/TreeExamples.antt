@@ -11,10 +11,11 @@ use Rattle.drawing.specs.Trees.{Link, chord_links, glued_links}
 abbrev link : ℕ → ℕ → Link
 link one other = record { one = one; other = other }
 
--- without a twist each chord cuts a bigon off the base piece
+-- without a twist: the base piece 0, and a bigon at the end of each side
 torus_without_twist_names : pieces torus_without_twist ≡ 0 ∷ 1 ∷ 4 ∷ 7 ∷ 10 ∷ []
 torus_without_twist_names = refl
 
+-- each chord cuts a bigon off the base piece
 torus_without_twist_chords : chord_links torus_without_twist ≡ link 7 0 ∷ link 0 1 ∷ link 10 0 ∷ link 0 4 ∷ []
 torus_without_twist_chords = refl
 
@@ -22,14 +23,15 @@ torus_without_twist_chords = refl
 torus_without_twist_glued : glued_links torus_without_twist ≡ link 0 7 ∷ link 1 0 ∷ link 0 10 ∷ link 4 0 ∷ []
 torus_without_twist_glued = refl
 
--- two hexagons, 1 and 5, with a chord between them, and two parts of the base piece round each
+-- two hexagons, 1 and 5, and four base pieces
 torus_two_hexagons_names : pieces torus_two_hexagons ≡ 0 ∷ 1 ∷ 2 ∷ 5 ∷ 6 ∷ 9 ∷ []
 torus_two_hexagons_names = refl
 
+-- a chord lies between the hexagons, and behind the other two chords of each are two base pieces
 torus_two_hexagons_chords : chord_links torus_two_hexagons ≡ link 5 9 ∷ link 1 5 ∷ link 2 1 ∷ link 1 0 ∷ link 6 5 ∷ []
 torus_two_hexagons_chords = refl
 
--- they are glued to one another as well, and each to two base pieces
+-- the hexagons are glued to one another as well, and each to two base pieces
 torus_two_hexagons_glued : glued_links torus_two_hexagons ≡ link 0 5 ∷ link 1 6 ∷ link 2 1 ∷ link 1 5 ∷ link 5 9 ∷ []
 torus_two_hexagons_glued = refl
 

@@ -52,8 +52,8 @@ bordering_met d ok s stretches b c m h = RoundPiece.bordering_met d ok s stretch
 pub leads_to_next : (d : Drawing) → IsEmbedded d → (c : Chord) (s t : ℕ) → Mem c (chords d) → Leads c s t → t ≡ next_segment d s
 leads_to_next d ok c s t m h = RoundPiece.leads_to_next d ok c s t m h
 
--- which lies in the piece again where that isn't base
-pub next_in_piece : (d : Drawing) → IsEmbedded d → (s : ℕ) → s < span_count d → is_base d s ≡ false → same_piece (chords d) s (next_segment d s) ≡ true
+-- which is one of the piece's segments again where the piece isn't base
+pub next_in_piece : (d : Drawing) → IsEmbedded d → (s : ℕ) → s < span_count d → is_base d s ≡ false → Mem (next_segment d s) (segments_in d s)
 next_in_piece d ok s l inner = RoundPiece.next_in_piece d ok s l inner
 
 -- a base piece has a gap

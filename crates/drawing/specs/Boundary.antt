@@ -28,10 +28,10 @@ abbrev pub first_segment : List Stretch → ℕ → ℕ
 first_segment [] other = other
 first_segment (p ∷ ps) other = p.segment
 
--- each chord leads from its segment to the next one, and the last chord to the segment 'last'
+-- each chord leads from its segment to the next one, and the last chord to the segment 'after'
 abbrev pub InTurn : List Stretch → ℕ → Type 0
-InTurn [] last = Unit {0}
-InTurn (p ∷ ps) last = Leads p.chord p.segment (first_segment ps last) × InTurn ps last
+InTurn [] after = Unit {0}
+InTurn (p ∷ ps) after = Leads p.chord p.segment (first_segment ps after) × InTurn ps after
 
 -- the boundary of the piece of a span, counterclockwise: all segments of the piece, each once, between points; as many
 -- chords of the drawing, each once; and they follow one another in turn until the first segment comes again
