@@ -15,7 +15,9 @@ pub mod Lists
 mod Mates
 mod Orbits
 mod PieceCount
+mod PieceTrees
 mod Placed
+mod RoundPiece
 pub mod SamePiece
 mod Hits
 mod SpanTests
@@ -25,3 +27,5 @@ mod StrandTables
 mod SweepTables
 mod SweepTest
 pub mod Tests
+pub mod TreeExamples
+pub mod TreeLaws

@@ -1,3 +1,4 @@
+pub mod Boundary
 pub mod Counted
 pub mod Cut
 pub mod Fingers
@@ -10,3 +11,4 @@ pub mod Round
 pub mod Strands
 pub mod Sweep
 pub mod Tight
+pub mod Trees
