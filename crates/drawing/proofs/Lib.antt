@@ -24,3 +24,5 @@ mod StrandTables
 mod SweepTables
 mod SweepTest
 pub mod Tests
+mod tight
+pub mod TightLaws

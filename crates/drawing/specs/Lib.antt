@@ -10,3 +10,4 @@ pub mod Round
 pub mod Strands
 pub mod Sweep
 pub mod Tight
+pub mod Turns
