@@ -1,5 +1,6 @@
 -- Tight drawings: the order of their points, and how turns are taken out.
 pub mod GoalOrder
+pub mod KeptPlaces
 pub mod Maps
 pub mod Numbered
 mod TurnExample
@@ -9,6 +10,7 @@ pub mod Tightened
 pub mod TurnChords
 pub mod TurnCounts
 pub mod TurnFound
+pub mod TurnGone
 pub mod TurnMap
 pub mod TurnRemoved
 pub mod TwoMore

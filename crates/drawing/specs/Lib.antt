@@ -9,5 +9,6 @@ pub mod Reading
 pub mod Round
 pub mod Strands
 pub mod Sweep
+pub mod Thinned
 pub mod Tight
 pub mod Turns

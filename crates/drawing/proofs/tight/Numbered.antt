@@ -51,3 +51,20 @@ get_at (u ∷ us) e vs x = get_at us e vs x
 pub length_split : {X : Type 0} (us : List X) (e : X) (vs : List X) → length us < length (us ++ (e ∷ vs))
 length_split [] e vs = omega arith
 length_split (u ∷ us) e vs = omega (arith, length_split us e vs)
+
+-- a numbered, rewritten list is the list rewritten
+pub enum_same : {X Y Z : Type 0} (h : ℕ × Y → Z) (f : X → Y) (g : X → Z) (n : ℕ) (xs : List X) → ((l : ℕ) (e : X) → Mem (l, e) (enumerate_from n xs) → h (l, f e) ≡ g e)
+    → map h (enumerate_from n (map f xs)) ≡ map g xs
+enum_same h f g n [] same = refl
+enum_same h f g n (x ∷ xs) same =
+    let a : h (n, f x) ≡ g x = same n x (inl refl) in
+    let b = enum_same h f g (n + 1) xs (λ l e m. same l e (inr m)) in
+    rw (a, b) refl
+
+-- a numbered member is the one with this number
+pub numbered_at : {X : Type 0} (xs : List X) (i : ℕ) (x z : X) → Mem (i, x) (enumerate_from 0 xs) → (i < length xs) × (get_or xs i z ≡ x)
+numbered_at xs i x z m =
+    let (us, vs, q, r) = enum_split 0 xs i x m in
+    let n : i ≡ length us = omega arith in
+    let len : length xs ≡ length (us ++ (x ∷ vs)) = ap length q in
+    (omega (arith, n, len, length_split us x vs), ap (λ ys. get_or ys i z) q ∙ (ap (λ k. get_or (us ++ (x ∷ vs)) k z) n ∙ get_at us x vs z))

@@ -17,7 +17,7 @@ use Rattle.drawing.specs.Tight.{goals, goals_on, goals_back, goals_at, comes_fir
 use Rattle.drawing.proofs.Ends.{place_in, side_in, same_count}
 use Rattle.drawing.proofs.Lists.{mem_flat, mem_row}
 use Rattle.drawing.proofs.Spots.{stands_below, places_below}
-use Rattle.drawing.proofs.tight.Numbered.{enum_split, enum_sum, enum_again, get_at, length_split}
+use Rattle.drawing.proofs.tight.Numbered.{numbered_at, enum_split, enum_sum, enum_again, get_at, length_split}
 use Rattle.drawing.proofs.tight.StrandWays.{first_of, letters, on_straight, back_straight, way_on, way_back}
 use Rattle.drawing.proofs.tight.Ways.{Way, NoTurn, HasGoals, goals_by_places}
 
@@ -185,13 +185,7 @@ module _ (d : Drawing) (ok : IsEmbedded d) (tight : IsTight d) where
 
   -- a numbered strand is the strand with this number
   strand_at : (i : ℕ) (es : List Exit) → Mem (i, es) (enumerate_from 0 d.strands) → (i < arc_count p) × (strand_exits d i ≡ es)
-  strand_at i es m =
-      let (us, vs, q, r) = enum_split 0 d.strands i es m in
-      let n : i ≡ length us = omega arith in
-      let len : length d.strands ≡ length (us ++ (es ∷ vs)) = ap length q in (
-        omega (arith, n, len, length_split us es vs, ok.strand_count),
-        ap (λ ss. get_or ss i []) q ∙ (ap (λ k. get_or (us ++ (es ∷ vs)) k []) n ∙ get_at us es vs []),
-      )
+  strand_at i es m = let at = numbered_at d.strands i es [] m in (omega (arith, at, ok.strand_count), at.1)
 
   -- a numbered exit of a numbered strand is a letter of it
   letter_at : (i : ℕ) (es : List Exit) (l : ℕ) (e : Exit) → Mem (i, es) (enumerate_from 0 d.strands) → Mem (l, e) (enumerate_from 0 es) → Letter d i l e
@@ -222,14 +216,6 @@ module _ (d : Drawing) (ok : IsEmbedded d) (tight : IsTight d) where
   pub exit_place : (i l : ℕ) (e : Exit) → Letter d i l e → tight_place d.polygon (words d) e.side (goals_on d.polygon i (letters (strand_exits d i)) l) ≡ e.place
   exit_place i l e at =
       goals_before e.side e.place (goals_on p i (letters (strand_exits d i)) l) (side_in d ok e (here i l e at)) (place_in d ok e (here i l e at)) (goals_of_exit i l e at)
-
-  -- and its entry too
-  pub entry_place : (i l : ℕ) (e : Exit) → Letter d i l e
-      → tight_place d.polygon (words d) (partner d.polygon e.side) (goals_back d.polygon i (letters (strand_exits d i)) l) ≡ points_on d e.side - 1 - e.place
-  entry_place i l e at =
-      let lp = place_in d ok e (here i l e at) in
-      goals_before (partner p e.side) (points_on d e.side - 1 - e.place) (goals_back p i (letters (strand_exits d i)) l)
-      (ok.polygon.pairs.in_range e.side (side_in d ok e (here i l e at))) (omega (arith, lp, same_count d ok e.side)) (goals_of_entry i l e at)
 
   -- a tight embedded drawing is the one that the definition gives for its words
   pub is_tight_drawing : d ≡ tight_drawing d.polygon (words d)
