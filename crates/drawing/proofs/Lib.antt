@@ -24,5 +24,6 @@ mod StrandTables
 mod SweepTables
 mod SweepTest
 pub mod Tests
+pub mod Thinned
 mod tight
 pub mod TightLaws

@@ -53,6 +53,18 @@ reduced_words_tight d ok = (Tightened.reduced_words_drawn d ok).1
 pub turns_out_tight : (d e : Drawing) → IsEmbedded d → TurnsOut d e → IsTight e → e ≡ tight_drawing d.polygon (map (reduced d.polygon) (words d))
 turns_out_tight d e ok turns tight = Tightened.tight_loosened d e ok (Tightened.loosened_turns ok turns) tight
 
--- and so whatever embedded drawing is reached by cancelling in the words
+-- the words tell it too: an embedded drawing comes from itself,
+pub loosened_same : (d : Drawing) → IsEmbedded d → Loosened d d
+loosened_same d ok = Tightened.loosened_same d ok
+
+-- without a turn it comes from the one with it,
+pub loosened_turn : (d : Drawing) → IsEmbedded d → (i : ℕ) (us : List Exit) (u v : Exit) (vs : List Exit) → IsTurn d i us u v vs → Loosened d (without_turn d i us u v vs)
+loosened_turn d ok i us u v vs turn = Tightened.loosened_turn d ok i us u v vs turn
+
+-- what comes in two stages comes,
+pub loosened_then : (d e f : Drawing) → Loosened d e → Loosened e f → Loosened d f
+loosened_then d e f r s = Tightened.loosened_then d e f r s
+
+-- and when no word has a cancelling pair any more, it is the tight drawing of the reduced words
 pub tight_loosened : (d e : Drawing) → IsEmbedded d → Loosened d e → IsTight e → e ≡ tight_drawing d.polygon (map (reduced d.polygon) (words d))
 tight_loosened d e ok r tight = Tightened.tight_loosened d e ok r tight

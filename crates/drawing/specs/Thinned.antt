@@ -5,6 +5,7 @@ use Rattle.obd_base.specs.Lists.{below}
 use Rattle.obd_base.specs.declared.points.Exit.{Exit}
 use Rattle.page_surface.specs.Drawing.{Drawing, entry, exit, points_on, spot}
 use Rattle.page_surface.specs.Polygon.{partner, sides}
+use Rattle.drawing.specs.Turns.{Loosened}
 
 -- how many points of side k below place j stay
 abbrev pub places_kept : Drawing → (ℕ → Bool) → ℕ → ℕ → ℕ
@@ -31,3 +32,8 @@ IsAlike d gone = (k j : ℕ) → k < sides d.polygon → j < points_on d k
 abbrev pub turn_gone : Drawing → Exit → Exit → (ℕ → Bool) → ℕ → Bool
 turn_gone d out back gone x =
     gone x || (nat_eq x (spot d out) || (nat_eq x (spot d (entry d out)) || (nat_eq x (spot d back) || nat_eq x (spot d (entry d back)))))
+
+-- what is gone are turns: each point under both its names, and without them the drawing is reached by turns taken out
+pub record TurnsGone (d : Drawing) (gone : ℕ → Bool) : Type 0 where
+  pub alike : IsAlike d gone
+  pub loosened : Loosened d (thinned d gone)

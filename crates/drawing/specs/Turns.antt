@@ -45,7 +45,7 @@ pub data TurnsOut : Drawing → Drawing → Type 0 where
   one_more : {d e : Drawing} {i : ℕ} {before : List Exit} {out back : Exit} {after : List Exit}
       → IsTurn d i before out back after → TurnsOut (without_turn d i before out back after) e → TurnsOut d e
 
--- the same as its words tell: it is embedded, and each word comes by steps
+-- what words tell of it: it is embedded, and each of its words comes by steps that take out cancelling pairs
 pub record Loosened (d e : Drawing) : Type 0 where
   pub embedded : IsEmbedded e
   pub polygon : e.polygon ≡ d.polygon

@@ -1,16 +1,17 @@
 -- How many places of a side stay when points are taken out.
-use Rattle.std.proofs.Common.{◌≡◌, ℕ, zero, suc, ◌+◌, ◌-◌, ◌*◌, ◌<◌, ◌≤◌, Bool, true, false, cond, eqb, ltb, not, ◌&&◌, List, [], ◌∷◌, map, refl, sym, ◌∙◌, ap, subst, arith, inl, inr, ◌≢◌}
-use Rattle.std.specs.List.{count_by, sum_by, filter}
-use Rattle.std.proofs.lemmas.Bool.{cases_Bool, cases_lt, cases_eq, eq-eqb, ne_eqb, lt-ltb, le-ltb, eqb-true}
+use Rattle.std.proofs.Common.{◌≡◌, ℕ, zero, suc, ◌+◌, ◌-◌, ◌<◌, ◌≤◌, Bool, true, false, cond, eqb, not, ◌&&◌, List, [], ◌∷◌, map, refl, sym, ◌∙◌, ap, subst, arith, inl, inr, ◌≢◌}
+use Rattle.std.specs.List.{count_by, sum_by}
+use Rattle.std.proofs.lemmas.Bool.{cases_Bool, cases_lt, cases_eq, eq-eqb, ne_eqb, lt-ltb, le-ltb}
 use Rattle.std.proofs.lemmas.List.Sums.{sum_by-cons}
 use Rattle.obd_base.specs.Lists.{below, Mem}
 use Rattle.obd_base.specs.declared.points.Exit.{Exit}
 use Rattle.obd_base.proofs.lists.Below.{bit, count_suc, count_more, count_less, mem_below}
-use Rattle.obd_base.proofs.lists.Sums.{sum_same, sum_add, sum_none, sum_map, sum_flat, sum_swap, sum_below_push}
+use Rattle.obd_base.proofs.lists.Sums.{sum_same, sum_add, sum_none, sum_map, sum_flat, sum_swap}
 use Rattle.page_surface.specs.Drawing.{Drawing, IsEmbedded, all_exits, offset, points_on, spot, stands_at}
 use Rattle.page_surface.specs.Polygon.{partner, sides}
 use Rattle.drawing.specs.Thinned.{IsAlike, places_kept, thinned, thinned_exit, thinned_exits}
 use Rattle.drawing.specs.Turns.{lowered_place}
+use Rattle.drawing.proofs.tight.Maps.{sum_one}
 use Rattle.drawing.proofs.Ends.{place_in, side_in, same_count}
 
 module _ (p q : ℕ → Bool) (s m : ℕ) (first : p s ≡ true) (second : p (suc s) ≡ true) (no_first : q s ≡ false) (no_second : q (suc s) ≡ false)
@@ -26,32 +27,24 @@ module _ (p q : ℕ → Bool) (s m : ℕ) (first : p s ≡ true) (second : p (su
   after_two : (j : ℕ) → j ≤ m → suc s < j → count_by q (below j) + 2 ≡ count_by p (below j)
   after_two zero l h = absurd (omega arith)
   after_two (suc j) l h = elim (cases_eq j (suc s)) [
-      inl e ↦
+    | inl e ↦
         (let a : bit (p s) ≡ 1 = ap bit first in
-         let b : bit (p (suc s)) ≡ 1 = ap bit second in
-         let f : bit (q s) ≡ 0 = ap bit no_first in
-         let g : bit (q (suc s)) ≡ 0 = ap bit no_second in
-         subst (λ j. count_by q (below (suc j)) + 2 ≡ count_by p (below (suc j))) (sym e)
-           (omega (arith, count_suc q (suc s), count_suc q s, count_suc p (suc s), count_suc p s, a, b, f, g, before_two s (omega arith) (omega arith))))
+        let b : bit (p (suc s)) ≡ 1 = ap bit second in
+        let f : bit (q s) ≡ 0 = ap bit no_first in
+        let g : bit (q (suc s)) ≡ 0 = ap bit no_second in
+        subst (λ j. count_by q (below (suc j)) + 2 ≡ count_by p (below (suc j))) (sym e)
+        (omega (arith, count_suc q (suc s), count_suc q s, count_suc p (suc s), count_suc p s, a, b, f, g, before_two s (omega arith) (omega arith))))
     | inr ne ↦
         (let e : bit (q j) ≡ bit (p j) = ap bit (same j (omega arith) (λ z. omega arith) ne) in
-         omega (arith, count_suc q j, count_suc p j, e, after_two j (omega arith) (omega arith))) ]
+        omega (arith, count_suc q j, count_suc p j, e, after_two j (omega arith) (omega arith)))
+  ]
 
   -- so each other number is lowered past the two
   pub lowered_count : (j : ℕ) → j < m → j ≢ s → j ≢ suc s → p j ≡ true → lowered_place (count_by p (below s)) (count_by p (below j)) ≡ count_by q (below j)
   lowered_count j l a b t = elim (cases_lt j s) [
-      inl h ↦ rw (lt-ltb (count_by p (below j)) (count_by p (below s)) (count_less p j s t h)) (omega (arith, before_two j (omega arith) (omega arith)))
-    | inr h ↦ rw (le-ltb (count_by p (below j)) (count_by p (below s)) (count_more p s j h)) (omega (arith, after_two j (omega arith) (omega arith))) ]
-
--- a sum of which one number adds
-sum_one : (f : ℕ → ℕ) (c m : ℕ) → c < m → ((j : ℕ) → j < m → j ≢ c → f j ≡ 0) → sum_by f (below m) ≡ f c
-sum_one f c zero l h = absurd (omega arith)
-sum_one f c (suc m) l h = elim (cases_eq c m) [
-    inl e ↦
-      (let none = sum_none f (below m) (λ j i. let k = mem_below m j i in h j (omega arith) (λ z. omega arith)) in
-       let last : f m ≡ f c = ap f (sym e) in
-       omega (arith, sum_below_push f m, none, last))
-  | inr ne ↦ omega (arith, sum_below_push f m, sum_one f c m (omega arith) (λ j k n. h j (omega arith) n), h m (omega arith) (λ z. ne (sym z))) ]
+    | inl h ↦ rw (lt-ltb (count_by p (below j)) (count_by p (below s)) (count_less p j s t h)) (omega (arith, before_two j (omega arith) (omega arith)))
+    | inr h ↦ rw (le-ltb (count_by p (below j)) (count_by p (below s)) (count_more p s j h)) (omega (arith, after_two j (omega arith) (omega arith)))
+  ]
 
 -- a sum of two, unless a test says no
 unless_add : (b : Bool) (x y : ℕ) → cond b 0 (x + y) ≡ cond b 0 x + cond b 0 y
@@ -71,23 +64,24 @@ module _ (d : Drawing) (gone : ℕ → Bool) where
       let r = sum_kept f es in
       let c = sum_by-cons (λ e. cond (gone (spot d e)) 0 (f (thinned_exit d gone e))) e es in
       elim (cases_Bool (gone (spot d e))) [
-        inl q ↦
-          (let a : sum_by f (thinned_exits d gone (e ∷ es)) ≡ sum_by f (thinned_exits d gone es) = rw q refl in
-           let b : cond (gone (spot d e)) 0 (f (thinned_exit d gone e)) ≡ 0 = rw q refl in
-           omega (arith, a, b, c, r))
-      | inr q ↦
-          (let a : sum_by f (thinned_exits d gone (e ∷ es)) ≡ sum_by f (thinned_exit d gone e ∷ thinned_exits d gone es) = rw q refl in
-           let b : cond (gone (spot d e)) 0 (f (thinned_exit d gone e)) ≡ f (thinned_exit d gone e) = rw q refl in
-           omega (arith, a, b, c, r, sum_by-cons f (thinned_exit d gone e) (thinned_exits d gone es))) ]
+        | inl q ↦
+            (let a : sum_by f (thinned_exits d gone (e ∷ es)) ≡ sum_by f (thinned_exits d gone es) = rw q refl in
+            let b : cond (gone (spot d e)) 0 (f (thinned_exit d gone e)) ≡ 0 = rw q refl in
+            omega (arith, a, b, c, r))
+        | inr q ↦
+            (let a : sum_by f (thinned_exits d gone (e ∷ es)) ≡ sum_by f (thinned_exit d gone e ∷ thinned_exits d gone es) = rw q refl in
+            let b : cond (gone (spot d e)) 0 (f (thinned_exit d gone e)) ≡ f (thinned_exit d gone e) = rw q refl in
+            omega (arith, a, b, c, r, sum_by-cons f (thinned_exit d gone e) (thinned_exits d gone es)))
+      ]
 
   -- a sum over all exits of the thinned drawing
   pub sum_thinned : (f : Exit → ℕ) → sum_by f (all_exits (thinned d gone)) ≡ sum_by (λ e. cond (gone (spot d e)) 0 (f (thinned_exit d gone e))) (all_exits d)
   sum_thinned f =
       let g : Exit → ℕ = λ e. cond (gone (spot d e)) 0 (f (thinned_exit d gone e)) in
       sum_flat f (λ s. s) (map (thinned_exits d gone) d.strands)
-        ∙ (sum_map (λ s. sum_by f s) (thinned_exits d gone) d.strands
-        ∙ (sum_same (λ s. sum_by f (thinned_exits d gone s)) (λ s. sum_by g s) d.strands (λ s m. sum_kept f s)
-        ∙ sym (sum_flat g (λ s. s) d.strands)))
+      ∙ (sum_map (λ s. sum_by f s) (thinned_exits d gone) d.strands
+      ∙ (sum_same (λ s. sum_by f (thinned_exits d gone s)) (λ s. sum_by g s) d.strands (λ s m. sum_kept f s)
+      ∙ sym (sum_flat g (λ s. s) d.strands)))
 
 module _ (d : Drawing) (ok : IsEmbedded d) (gone : ℕ → Bool) (alike : IsAlike d gone) where
   -- the first places of the partner that stay are the last ones of the side
@@ -120,32 +114,34 @@ module _ (d : Drawing) (ok : IsEmbedded d) (gone : ℕ → Bool) (alike : IsAlik
     where
       outs : sum_by (λ j. cond {A = ℕ} (gone (offset d k + j)) 0 (bit (eqb e.side k && eqb e.place j))) (below (points_on d k)) ≡ cond (gone (spot d e)) 0 (bit (eqb e.side k))
       outs = elim (cases_eq e.side k) [
-          inl q ↦
+        | inl q ↦
             (let here : e.place < points_on d k = subst (λ s. e.place < points_on d s) q (place_in d ok e i) in
-             let at : bit (eqb e.side k) ≡ 1 = rw (eq-eqb e.side k q) refl in
-             sum_one _ e.place (points_on d k) here (λ j l n. rw (eq-eqb e.side k q, ne_eqb e.place j (λ z. n (sym z))) (unless_none (gone (offset d k + j))))
-               ∙ (rw (eq-eqb e.side k q, eq-eqb e.place e.place refl) (ap (λ s. cond (gone (offset d s + e.place)) 0 1) (sym q))))
+            let at : bit (eqb e.side k) ≡ 1 = rw (eq-eqb e.side k q) refl in
+            sum_one _ e.place (points_on d k) here (λ j l n. rw (eq-eqb e.side k q, ne_eqb e.place j (λ z. n (sym z))) (unless_none (gone (offset d k + j))))
+            ∙ (rw (eq-eqb e.side k q, eq-eqb e.place e.place refl) (ap (λ s. cond (gone (offset d s + e.place)) 0 1) (sym q))))
         | inr n ↦
             (let none = sum_none (λ j. cond {A = ℕ} (gone (offset d k + j)) 0 (bit (eqb e.side k && eqb e.place j))) (below (points_on d k))
-             (λ j l. rw (ne_eqb e.side k n) (unless_none (gone (offset d k + j)))) in
-             none ∙ sym (rw (ne_eqb e.side k n) (unless_none (gone (spot d e))))) ]
+            (λ j l. rw (ne_eqb e.side k n) (unless_none (gone (offset d k + j)))) in
+            none ∙ sym (rw (ne_eqb e.side k n) (unless_none (gone (spot d e)))))
+      ]
 
       backs : sum_by (λ j. cond {A = ℕ} (gone (offset d k + j)) 0 (bit (eqb (partner d.polygon e.side) k && eqb (suc (e.place + j)) (points_on d k)))) (below (points_on d k))
           ≡ cond (gone (spot d e)) 0 (bit (eqb (partner d.polygon e.side) k))
       backs = elim (cases_eq (partner d.polygon e.side) k) [
-          inl q ↦
+        | inl q ↦
             (let here = place_in d ok e i in
-             let same : points_on d k ≡ points_on d e.side = ap (points_on d) (sym q) ∙ same_count d ok e.side in
-             let c = points_on d k - 1 - e.place in
-             let other : gone (offset d k + c) ≡ gone (spot d e)
-             = ap (λ m. gone (offset d k + (m - 1 - e.place))) same ∙ (ap (λ s. gone (offset d s + (points_on d e.side - 1 - e.place))) (sym q) ∙ sym (alike e.side e.place (side_in d ok e i) here)) in
-             sum_one _ c (points_on d k) (omega (arith, here, same))
-               (λ j l n. rw (eq-eqb (partner d.polygon e.side) k q, ne_eqb (suc (e.place + j)) (points_on d k) (λ z. n (omega (arith, z)))) (unless_none (gone (offset d k + j))))
-               ∙ (rw (eq-eqb (partner d.polygon e.side) k q, eq-eqb (suc (e.place + c)) (points_on d k) (omega (arith, here, same))) (ap (λ b. cond b 0 1) other)))
+            let same : points_on d k ≡ points_on d e.side = ap (points_on d) (sym q) ∙ same_count d ok e.side in
+            let c = points_on d k - 1 - e.place in
+            let other : gone (offset d k + c) ≡ gone (spot d e)
+            = ap (λ m. gone (offset d k + (m - 1 - e.place))) same ∙ (ap (λ s. gone (offset d s + (points_on d e.side - 1 - e.place))) (sym q) ∙ sym (alike e.side e.place (side_in d ok e i) here)) in
+            sum_one _ c (points_on d k) (omega (arith, here, same))
+            (λ j l n. rw (eq-eqb (partner d.polygon e.side) k q, ne_eqb (suc (e.place + j)) (points_on d k) (λ z. n (omega (arith, z)))) (unless_none (gone (offset d k + j))))
+            ∙ (rw (eq-eqb (partner d.polygon e.side) k q, eq-eqb (suc (e.place + c)) (points_on d k) (omega (arith, here, same))) (ap (λ b. cond b 0 1) other)))
         | inr n ↦
             (let none = sum_none (λ j. cond {A = ℕ} (gone (offset d k + j)) 0 (bit (eqb (partner d.polygon e.side) k && eqb (suc (e.place + j)) (points_on d k)))) (below (points_on d k))
-             (λ j l. rw (ne_eqb (partner d.polygon e.side) k n) (unless_none (gone (offset d k + j)))) in
-             none ∙ sym (rw (ne_eqb (partner d.polygon e.side) k n) (unless_none (gone (spot d e))))) ]
+            (λ j l. rw (ne_eqb (partner d.polygon e.side) k n) (unless_none (gone (offset d k + j)))) in
+            none ∙ sym (rw (ne_eqb (partner d.polygon e.side) k n) (unless_none (gone (spot d e)))))
+      ]
 
   -- a side of the thinned drawing has the points that stay
   pub points_thinned : (k : ℕ) → k < sides d.polygon → points_on (thinned d gone) k ≡ places_kept d gone k (points_on d k)
@@ -165,5 +161,6 @@ module _ (d : Drawing) (ok : IsEmbedded d) (gone : ℕ → Bool) (alike : IsAlik
     where
       once : (j : ℕ) → j < points_on d k → sum_by (λ e. cond (gone (offset d k + j)) 0 (stands_at d e k j)) (all_exits d) ≡ bit (not (gone (offset d k + j)))
       once j l = elim (cases_Bool (gone (offset d k + j))) [
-          inl q ↦ rw q (sum_none (λ e. 0) (all_exits d) (λ e m. refl))
-        | inr q ↦ rw q (ok.places k lk j l) ]
+        | inl q ↦ rw q (sum_none (λ e. 0) (all_exits d) (λ e m. refl))
+        | inr q ↦ rw q (ok.places k lk j l)
+      ]

@@ -1,6 +1,7 @@
 -- Lists with their members numbered.
 use Rattle.std.proofs.Common.{◌≡◌, ℕ, ◌+◌, ◌<◌, List, [], ◌∷◌, ◌++◌, map, length, get_or, refl, sym, ◌∙◌, ap, arith, inl, inr}
 use Rattle.std.specs.List.{sum_by, enumerate_from}
+use Rattle.std.proofs.lemmas.List.{get_or_at}
 use Rattle.std.proofs.lemmas.List.Sums.{sum_by-cons}
 use Rattle.obd_base.specs.Lists.{Mem}
 use Rattle.obd_base.proofs.lists.Sums.{sum_same, sum_map}
@@ -42,11 +43,6 @@ enum_again h f n (x ∷ xs) same =
     let b = enum_again h f (n + 1) xs (λ l e m. same l e (inr m)) in
     rw (a, b) refl
 
--- the member that comes after a first part
-pub get_at : {X : Type 0} (us : List X) (e : X) (vs : List X) (x : X) → get_or (us ++ (e ∷ vs)) (length us) x ≡ e
-get_at [] e vs x = refl
-get_at (u ∷ us) e vs x = get_at us e vs x
-
 -- a member comes within its list
 pub length_split : {X : Type 0} (us : List X) (e : X) (vs : List X) → length us < length (us ++ (e ∷ vs))
 length_split [] e vs = omega arith
@@ -67,4 +63,4 @@ numbered_at xs i x z m =
     let (us, vs, q, r) = enum_split 0 xs i x m in
     let n : i ≡ length us = omega arith in
     let len : length xs ≡ length (us ++ (x ∷ vs)) = ap length q in
-    (omega (arith, n, len, length_split us x vs), ap (λ ys. get_or ys i z) q ∙ (ap (λ k. get_or (us ++ (x ∷ vs)) k z) n ∙ get_at us x vs z))
+    (omega (arith, n, len, length_split us x vs), ap (λ ys. get_or ys i z) q ∙ get_or_at us x vs z i (sym n))

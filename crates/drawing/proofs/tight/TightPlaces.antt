@@ -2,7 +2,7 @@
 use Rattle.std.proofs.Common.{◌≡◌, ℕ, suc, ◌-◌, ◌<◌, Bool, cond, eqb, List, [], ◌∷◌, ◌++◌, map, length, get_or, take, drop, refl, sym, ◌∙◌, ap, subst, arith, inl, inr, ◌≢◌}
 use Rattle.std.specs.List.{sum_by, count_by, flat_map, enumerate_from}
 use Rattle.std.proofs.lemmas.Bool.{cases_eq, eq-eqb, ne_eqb, lt-ltb}
-use Rattle.std.proofs.lemmas.List.{append-nil}
+use Rattle.std.proofs.lemmas.List.{append-nil, get_or_at, length-map, map-append, take_at}
 use Rattle.std.proofs.lemmas.List.Sums.{sum_by-cons}
 use Rattle.obd_base.proofs.lists.Below.{bit, below_mem}
 use Rattle.obd_base.proofs.lists.Members.{mem_right}
@@ -17,29 +17,18 @@ use Rattle.drawing.specs.Tight.{goals, goals_on, goals_back, goals_at, comes_fir
 use Rattle.drawing.proofs.Ends.{place_in, side_in, same_count}
 use Rattle.drawing.proofs.Lists.{mem_flat, mem_row}
 use Rattle.drawing.proofs.Spots.{stands_below, places_below}
-use Rattle.drawing.proofs.tight.Numbered.{numbered_at, enum_split, enum_sum, enum_again, get_at, length_split}
+use Rattle.drawing.proofs.tight.Numbered.{numbered_at, enum_split, enum_sum, enum_again}
 use Rattle.drawing.proofs.tight.StrandWays.{first_of, letters, on_straight, back_straight, way_on, way_back}
 use Rattle.drawing.proofs.tight.Ways.{Way, NoTurn, HasGoals, goals_by_places}
 
--- the first part of a joined list
-take_at : (us ys : List ℕ) → take (length us) (us ++ ys) ≡ us
-take_at [] ys = refl
-take_at (u ∷ us) ys = ap (λ w. u ∷ w) (take_at us ys)
-
 -- what comes after a member of a list
-drop_at : (us : List ℕ) (e : ℕ) (vs : List ℕ) → drop (suc (length us)) (us ++ (e ∷ vs)) ≡ vs
-drop_at [] e vs = refl
-drop_at (u ∷ us) e vs = drop_at us e vs
-
--- as many letters as exits
-length_letters : (us : List Exit) → length (letters us) ≡ length us
-length_letters [] = refl
-length_letters (u ∷ us) = ap suc (length_letters us)
+drop_past : (us : List ℕ) (e : ℕ) (vs : List ℕ) → drop (suc (length us)) (us ++ (e ∷ vs)) ≡ vs
+drop_past [] e vs = refl
+drop_past (u ∷ us) e vs = drop_past us e vs
 
 -- the letters of exits around an exit
 pub letters_split : (us : List Exit) (e : Exit) (vs : List Exit) → letters (us ++ (e ∷ vs)) ≡ letters us ++ (e.side ∷ letters vs)
-letters_split [] e vs = refl
-letters_split (u ∷ us) e vs = ap (λ w. u.side ∷ w) (letters_split us e vs)
+letters_split us e vs = map-append (λ (x : Exit). x.side) us (e ∷ vs)
 
 -- the rest of a free word is free
 free_from : (p : Polygon) (us vs : List ℕ) → Free p (us ++ vs) → Free p vs
@@ -111,21 +100,21 @@ module _ (d : Drawing) (ok : IsEmbedded d) (tight : IsTight d) where
 
     -- as many letters come before it as its number says
     number_is : l ≡ length (letters at.before)
-    number_is = at.number ∙ sym (length_letters at.before)
+    number_is = at.number ∙ sym (length-map at.before (λ (x : Exit). x.side))
 
     -- the letter with this number
     letter_is : get_or (letters (strand_exits d i)) l 0 ≡ e.side
-    letter_is = ap (λ w. get_or w l 0) word_is ∙ (ap (λ n. get_or (letters at.before ++ (e.side ∷ letters at.after)) n 0) number_is ∙ get_at (letters at.before) e.side (letters at.after) 0)
+    letter_is = ap (λ w. get_or w l 0) word_is ∙ get_or_at (letters at.before) e.side (letters at.after) 0 l (sym number_is)
 
     -- the letters after it
     rest_is : drop (suc l) (letters (strand_exits d i)) ≡ letters at.after
     rest_is =
         let n : suc l ≡ suc (length (letters at.before)) = omega (arith, number_is) in
-        ap (λ w. drop (suc l) w) word_is ∙ (ap (λ n. drop n (letters at.before ++ (e.side ∷ letters at.after))) n ∙ drop_at (letters at.before) e.side (letters at.after))
+        ap (λ w. drop (suc l) w) word_is ∙ (ap (λ n. drop n (letters at.before ++ (e.side ∷ letters at.after))) n ∙ drop_past (letters at.before) e.side (letters at.after))
 
     -- and before it
     past_is : take l (letters (strand_exits d i)) ≡ letters at.before
-    past_is = ap (λ w. take l w) word_is ∙ (ap (λ n. take n (letters at.before ++ (e.side ∷ letters at.after))) number_is ∙ take_at (letters at.before) (e.side ∷ letters at.after))
+    past_is = ap (λ w. take l w) word_is ∙ take_at (letters at.before) (e.side ∷ letters at.after) l (sym number_is)
 
     -- the way on through a letter's side
     pub goals_of_exit : HasGoals d ok e.side e.place (goals_on p i (letters (strand_exits d i)) l)

@@ -2,6 +2,7 @@
 use Rattle.std.proofs.Common.{◌≡◌, ℕ, zero, suc, ◌<◌, ◌≤◌, Bool, true, false, eqb, List, [], ◌∷◌, map, length, get_or, refl, sym, ◌∙◌, ap, subst, arith, le_refl, ◌⊎◌, inl, inr}
 use Rattle.std.proofs.lemmas.Bool.{cases_lt, cases_eq, eqb-true}
 use Rattle.std.proofs.lemmas.List.{get_or_past}
+use Rattle.std.proofs.lemmas.Simd.{map-map}
 use Rattle.obd_base.proofs.lists.Below.{mem_below}
 use Rattle.obd_base.proofs.lists.Sums.{by_entries}
 use Rattle.obd_base.specs.Lists.{below}
@@ -12,7 +13,7 @@ use Rattle.page_surface.specs.Polygon.{Polygon, partner, arc_count}
 use Rattle.page_surface.specs.Words.{Step, Steps, none, more, HasNoPair, reduced}
 use Rattle.drawing.specs.Tight.{tight_drawing, IsTight}
 use Rattle.drawing.specs.Turns.{IsTurn, without_turn, TurnsOut, no_more, one_more, Loosened}
-use Rattle.drawing.proofs.tight.Maps.{map_map, map_same}
+use Rattle.drawing.proofs.tight.Maps.{map_same}
 use Rattle.drawing.proofs.tight.StrandWays.{letters}
 use Rattle.drawing.proofs.tight.TightPlaces.{is_tight_drawing}
 use Rattle.drawing.proofs.tight.TurnFound.{turn_found}
@@ -107,7 +108,7 @@ tightened (suc n) d ok l = elim (free_or_some_step d (arc_count d.polygon)) [
 
 -- the words, strand by strand
 words_are : (d : Drawing) (n : ℕ) → length d.strands ≡ n → words d ≡ map (λ i. letters (strand_exits d i)) (below n)
-words_are d n e = ap (map letters) (by_entries [] d.strands n e) ∙ map_map letters (λ i. get_or d.strands i []) (below n)
+words_are d n e = ap (map letters) (by_entries [] d.strands n e) ∙ map-map letters (λ i. get_or d.strands i []) (below n)
 
 -- where a drawing is loosened until it is tight, its words are the reduced ones
 tight_words : (d e : Drawing) → IsEmbedded d → Loosened d e → IsTight e → words e ≡ map (reduced d.polygon) (words d)
@@ -118,7 +119,7 @@ tight_words d e ok r tight =
     ∙ (map_same (λ i. letters (strand_exits e i)) (λ i. reduced d.polygon (letters (strand_exits d i))) (below n) (λ i m.
     one_reduced_form d.polygon ok.polygon.pairs (letters (strand_exits d i)) (letters (strand_exits e i))
     (record { reached = r.steps i (mem_below n i m); free = subst (λ p. HasNoPair p (letters (strand_exits e i))) r.polygon (tight i) }))
-    ∙ (sym (map_map (reduced d.polygon) (λ i. letters (strand_exits d i)) (below n)) ∙ ap (map (reduced d.polygon)) (sym (words_are d n ok.strand_count))))
+    ∙ (sym (map-map (reduced d.polygon) (λ i. letters (strand_exits d i)) (below n)) ∙ ap (map (reduced d.polygon)) (sym (words_are d n ok.strand_count))))
 
 -- and it is the tight drawing of them
 pub tight_loosened : (d e : Drawing) → IsEmbedded d → Loosened d e → IsTight e → e ≡ tight_drawing d.polygon (map (reduced d.polygon) (words d))

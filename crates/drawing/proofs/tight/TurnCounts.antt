@@ -1,36 +1,21 @@
 -- A drawing without a turn: its strands, its points, and that the exits that are kept stand at none of the turn's places.
-use Rattle.std.proofs.Common.{◌≡◌, ℕ, zero, suc, ◌+◌, ◌-◌, ◌*◌, ◌<◌, ◌≤◌, cond, eqb, ltb, ◌&&◌, List, [], ◌∷◌, ◌++◌, map, length, get_or, refl, sym, ◌∙◌, ap, subst, arith, zero-add, ◌⊎◌, inl, inr, ◌≢◌}
+use Rattle.std.proofs.Common.{◌≡◌, ℕ, suc, ◌+◌, ◌-◌, ◌*◌, ◌<◌, ◌≤◌, cond, eqb, ◌&&◌, List, [], ◌∷◌, ◌++◌, map, length, get_or, refl, sym, ◌∙◌, ap, subst, arith, zero-add, ◌⊎◌, inl, inr, ◌≢◌}
 use Rattle.std.specs.List.{sum_by, enumerate_from}
-use Rattle.std.proofs.lemmas.Bool.{cases_lt, cases_eq, eq-eqb, ne_eqb, lt-ltb, le-ltb}
+use Rattle.std.proofs.lemmas.Bool.{cases_eq, eq-eqb, ne_eqb}
 use Rattle.std.proofs.lemmas.List.{length-map, get_or-map}
 use Rattle.std.proofs.lemmas.List.Sums.{sum_by-cons, sum_by-append}
 use Rattle.std.proofs.lemmas.List.FromFn.{length-enumerate_from, get_or-enumerate_from}
 use Rattle.obd_base.proofs.lists.Below.{bit, mem_below, below_mem}
 use Rattle.obd_base.proofs.lists.Members.{mem_left, mem_right, mem_append}
-use Rattle.obd_base.proofs.lists.Sums.{sum_same, sum_add, sum_map, sum_rows, sum_below_push, member_adds}
+use Rattle.obd_base.proofs.lists.Sums.{sum_same, sum_add, sum_map, sum_rows, member_adds}
 use Rattle.obd_base.specs.Lists.{below, Mem}
 use Rattle.obd_base.specs.declared.points.Exit.{Exit}
 use Rattle.page_surface.specs.Drawing.{Drawing, points_on, all_exits, strand_exits, stands_at, IsEmbedded}
 use Rattle.page_surface.specs.Polygon.{partner, sides, arc_count}
 use Rattle.drawing.specs.Turns.{IsTurn, without_turn, lowered, turn_place, far_place}
 use Rattle.drawing.proofs.Ends.{place_in, side_in, same_count}
+use Rattle.drawing.proofs.tight.Maps.{sum_one}
 use Rattle.drawing.proofs.Lists.{mem_row}
-
--- a sum in which one number counts
-sum_pick : (i c n : ℕ) → sum_by (λ j. cond {A = ℕ} (eqb j i) c 0) (below n) ≡ cond (ltb i n) c 0
-sum_pick i c zero = let z : cond {A = ℕ} (ltb i 0) c 0 ≡ 0 = rw (le-ltb i 0 (omega arith)) refl in sym z
-sum_pick i c (suc n) =
-    let p = sum_below_push (λ j. cond {A = ℕ} (eqb j i) c 0) n in
-    let r = sum_pick i c n in
-    elim (cases_eq n i) [
-      | inl e ↦ (let x : cond {A = ℕ} (eqb n i) c 0 ≡ c = rw (eq-eqb n i e) refl in let y : cond {A = ℕ} (ltb i n) c 0 ≡ 0 = rw (le-ltb i n (omega arith)) refl in
-          let z : cond {A = ℕ} (ltb i (suc n)) c 0 ≡ c = rw (lt-ltb i (suc n) (omega arith)) refl in omega (arith, p, r, x, y, z))
-      | inr ne ↦ (let x : cond {A = ℕ} (eqb n i) c 0 ≡ 0 = rw (ne_eqb n i ne) refl in
-          elim (cases_lt i n) [
-            | inl l ↦ (let y : cond {A = ℕ} (ltb i n) c 0 ≡ c = rw (lt-ltb i n l) refl in let z : cond {A = ℕ} (ltb i (suc n)) c 0 ≡ c = rw (lt-ltb i (suc n) (omega arith)) refl in omega (arith, p, r, x, y, z))
-            | inr l ↦ (let y : cond {A = ℕ} (ltb i n) c 0 ≡ 0 = rw (le-ltb i n l) refl in let z : cond {A = ℕ} (ltb i (suc n)) c 0 ≡ 0 = rw (le-ltb i (suc n) (omega arith)) refl in omega (arith, p, r, x, y, z))
-          ])
-    ]
 
 -- a sum with two neighbours apart
 sum_split : (f : Exit → ℕ) (us : List Exit) (u v : Exit) (vs : List Exit) → sum_by f (us ++ (u ∷ v ∷ vs)) ≡ sum_by f (us ++ vs) + (f u + f v)
@@ -92,8 +77,9 @@ module _ (d : Drawing) (ok : IsEmbedded d) (i : ℕ) (us : List Exit) (u v : Exi
             omega (arith, ap (sum_by f) a, b))
       ]) in
       let three = sum_add (λ j. sum_by f (row j)) (λ j. cond {A = ℕ} (eqb j i) (f u + f v) 0) (below n) in
-      let four : cond {A = ℕ} (ltb i n) (f u + f v) 0 ≡ f u + f v = rw (lt-ltb i n turn.arc) refl in
-      omega (arith, one, two, three, sum_pick i (f u + f v) n, four)
+      let four : cond {A = ℕ} (eqb i i) (f u + f v) 0 ≡ f u + f v = rw (eq-eqb i i refl) refl in
+      let pick = sum_one (λ j. cond {A = ℕ} (eqb j i) (f u + f v) 0) i n turn.arc (λ j l ne. rw (ne_eqb j i ne) refl) in
+      omega (arith, one, two, three, pick, four)
 
   -- a sum over all exits of the new drawing, strand by strand
   pub sum_new : (f : Exit → ℕ) → sum_by f (all_exits new) ≡ sum_by (λ j. sum_by (λ x. f (low x)) (row j)) (below (arc_count d.polygon))

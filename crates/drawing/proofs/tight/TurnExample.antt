@@ -1,7 +1,8 @@
 -- A drawing with a turn on the annulus, and without it.
-use Rattle.std.proofs.Common.{◌≡◌, true, [], ◌∷◌, refl, inl, arith}
+use Rattle.std.proofs.Common.{◌≡◌, true, false, [], ◌∷◌, refl, inl, arith}
 use Rattle.page_surface.specs.Drawing.{Drawing, exit, is_embedded, identity}
 use Rattle.page_surface.proofs.Examples.{annulus}
+use Rattle.drawing.specs.Thinned.{thinned, turn_gone}
 use Rattle.drawing.specs.Turns.{IsTurn, without_turn}
 
 -- the strand goes out, comes back and goes out again
@@ -19,3 +20,7 @@ annulus_turn = record { arc = omega arith; splits = refl; returns = refl; neighb
 -- without it the strand crosses its arc once
 annulus_without_turn : without_turn annulus_with_turn 0 [] (exit 1 2) (exit 0 1) (exit 1 0 ∷ []) ≡ identity annulus
 annulus_without_turn = refl
+
+-- and the same where its points are taken out
+annulus_thinned : thinned annulus_with_turn (turn_gone annulus_with_turn (exit 1 2) (exit 0 1) (λ x. false)) ≡ identity annulus
+annulus_thinned = refl
