@@ -29,3 +29,6 @@ mod SweepTest
 pub mod Tests
 pub mod TreeExamples
 pub mod TreeLaws
+pub mod Thinned
+mod tight
+pub mod TightLaws

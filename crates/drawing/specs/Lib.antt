@@ -10,5 +10,7 @@ pub mod Reading
 pub mod Round
 pub mod Strands
 pub mod Sweep
+pub mod Thinned
 pub mod Tight
 pub mod Trees
+pub mod Turns
