@@ -150,7 +150,7 @@ module _ (d : Drawing) (ok : IsEmbedded d) (i : ℕ) (us : List Exit) (u v : Exi
         | inr w ↦ inr (omega (arith, m, o, g, w))
       ]
 
-  -- no two chords cross without the turn
+  -- without the turn no two chords cross
   pub still_uncrossed : no_two_cross (chords thinner) ≡ true
   still_uncrossed =
       let r = all_merged in

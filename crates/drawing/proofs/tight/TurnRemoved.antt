@@ -1,4 +1,4 @@
--- A drawing without a turn is embedded, takes one step in one word, and two exits fewer on the two sides of the turn.
+-- Without a turn a drawing is embedded, one word has taken a step, and there are two exits fewer on the two sides of the turn.
 use Rattle.std.proofs.Common.{◌≡◌, ℕ, suc, ◌+◌, ◌-◌, ◌*◌, ◌<◌, ◌≤◌, Bool, true, false, eqb, ltb, leb, not, ◌&&◌, List, [], ◌∷◌, ◌++◌, map, length, refl, sym, ◌∙◌, ap, arith, ◌⊎◌, inl, inr, ◌≢◌}
 use Rattle.std.specs.List.{sum_by, list_all}
 use Rattle.std.proofs.lemmas.Bool.{cases_lt, cases_eq, eq-eqb, ne_eqb, le-leb, lt-leb, and_from, not_from_true}
