@@ -18,8 +18,8 @@ use std::marker::Model;
 #[derive(Drop)]
 pub(crate) struct Layout {
     polygon: Polygon,
-    strands: Items<Items<Exit>>,
-    offsets: Items<u32>,
+    strands: Vec<Items<Exit>>,
+    offsets: Vec<u32>,
 }
 
 impl Model for Layout {
@@ -28,9 +28,9 @@ impl Model for Layout {
 
     ghost Value = { Shown };
 
-    ghost view = { λ l. record { polygon = l.polygon; strands = l.strands } };
+    ghost view = { λ l. record { polygon = l.polygon; strands = l.strands.items } };
 
-    ghost invariant = { λ l. IsLaidOut (record { polygon = l.polygon; strands = l.strands }) l.offsets };
+    ghost invariant = { λ l. IsLaidOut (record { polygon = l.polygon; strands = l.strands.items }) l.offsets.items };
 }
 
 impl Layout {
@@ -38,15 +38,15 @@ impl Layout {
     pub(crate) fn of(
         alloc: Global,
         polygon: Polygon,
-        strands: Items<Items<Exit>>,
+        strands: Vec<Items<Exit>>,
     ) -> Result<Layout, NoMemory>
-        requires strands { length strands ≡ arc_count polygon }
-        requires on_sides { list_all (λ e. nat_lt e.side (sides polygon)) (all_exits (drawn polygon strands)) ≡ true }
-        requires few { length (all_exits (drawn polygon strands)) < 2 ^ 28 }
-        ensures { IfOk result (λ layout. layout ≡ drawn polygon strands) }
+        requires strands { length strands.items ≡ arc_count polygon }
+        requires on_sides { list_all (λ e. nat_lt e.side (sides polygon)) (all_exits (drawn polygon strands.items)) ≡ true }
+        requires few { length (all_exits (drawn polygon strands.items)) < 2 ^ 28 }
+        ensures { IfOk result (λ layout. layout ≡ drawn polygon strands.items) }
     {
         let _ = polygon.sides();
-        let exits = joined(alloc, strands.as_slice())?;
+        let exits = joined(alloc, &strands)?;
         let counts = side_counts(alloc, &polygon, &exits)?;
         let offsets = offsets(alloc, &counts)?;
         Ok(Layout {
@@ -67,7 +67,7 @@ impl Layout {
     pub(crate) fn strands(&self) -> &[Items<Exit>]
         ensures { result.now ≡ self.now.strands }
     {
-        self.strands.as_slice()
+        &self.strands
     }
 
     pub(crate) fn exits(&self, strand: StrandNo) -> &[Exit]
