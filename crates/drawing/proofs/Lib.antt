@@ -31,4 +31,5 @@ pub mod TreeExamples
 pub mod TreeLaws
 pub mod Thinned
 mod tight
+mod TurnTables
 pub mod TightLaws

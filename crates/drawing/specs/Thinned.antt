@@ -46,6 +46,10 @@ pub record TurnsGone (d : Drawing) (gone : ℕ → Bool) (turns : ℕ) : Type 0 
 abbrev pub is_gone : List Bool → ℕ → Bool
 is_gone table x = slice_index_or table x false
 
+-- a point is taken out, under both its names, and nothing else
+abbrev pub IsPointGone : Drawing → Exit → List Bool → List Bool → Type 0
+IsPointGone d e old new = (x : ℕ) → is_gone new x ≡ (is_gone old x || (nat_eq x (spot d e) || nat_eq x (spot d (entry d e))))
+
 -- the new places of the points of the first sides, and of the ends of these sides, by the numbers of the place order
 pub record AreNumbered (d : Drawing) (gone : ℕ → Bool) (sides : ℕ) (places : List ℕ) : Type 0 where
   pub each : (k j : ℕ) → k < sides → j ≤ points_on d k → slice_index_or places (offset d k + j) 0 ≡ places_kept d gone k j

@@ -1,12 +1,14 @@
 // A written drawing with its place order.
 ghost use Rattle.std.specs.Prelude.{◌≡◌, ◌+◌, ◌<◌, ◌≤◌, ◌^◌, true, length, nat_lt, IfOk};
 ghost use Rattle.std.specs.List.{list_all};
-ghost use Rattle.page_surface.specs.Drawing.{all_exits, end_of, entry, points_on, spot, strand_exits};
+ghost use Rattle.page_surface.specs.Drawing.{IsEmbedded, all_exits, end_of, entry, points_on, spot, strand_exits};
 ghost use Rattle.page_surface.specs.Polygon.{arc_count, sides};
 ghost use Rattle.drawing.specs.Layout.{IsWritten, drawn};
 ghost use Rattle.drawing.specs.Pieces.{span_count};
+ghost use Rattle.drawing.specs.Thinned.{IsAlike, is_gone, thinned};
 
 use crate::counts::{joined, offsets, side_counts};
+use crate::thinning::{move_sides, number_points, thin_strands};
 use obd_base::{Exit, Items, NoMemory, SideNo, StrandNo};
 use page_surface::Polygon;
 use std::alloc::Global;
@@ -117,6 +119,22 @@ impl Layout {
             side: self.polygon.pair(exit.side),
             place: self.points_on(exit.side) - 1 - exit.place,
         }
+    }
+
+    // Takes out the points that are gone, and numbers the others anew. The new places are written to the second
+    // table. Linear in the exits and sides.
+    pub(crate) fn thin(&mut self, gone: &[bool], places: &mut [u32])
+        requires embedded { IsEmbedded self.old }
+        requires gone_size { span_count self.old ≤ length gone.now }
+        requires places_size { span_count self.old ≤ length places.old }
+        requires alike { IsAlike self.old (is_gone gone.now) }
+        requires left { IsEmbedded (thinned self.old (is_gone gone.now)) }
+        requires few { length (all_exits (thinned self.old (is_gone gone.now))) < 2 ^ 28 }
+        ensures { self.new ≡ thinned self.old (is_gone gone.now) }
+    {
+        number_points(self, gone, places);
+        thin_strands(self.offsets.as_slice(), gone, places, &mut self.strands);
+        move_sides(places, &mut self.offsets);
     }
 
     // The end of a side.

@@ -133,3 +133,10 @@ reduced_words_drawn d ok =
     let (e, r, tight) = tightened (length (all_exits d)) d ok (le_refl _) in
     let q = tight_loosened d e ok r tight in
     (subst IsEmbedded q r.embedded, subst IsTight q tight)
+
+-- an embedded drawing with no turn is tight
+pub tight_without_turns : (d : Drawing) → IsEmbedded d → ((i : ℕ) (us : List Exit) (u v : Exit) (vs : List Exit) → IsTurn d i us u v vs → ⊥) → IsTight d
+tight_without_turns d ok no_turn = elim (free_or_some_step d (arc_count d.polygon)) [
+  | inl h ↦ tight_from_free d ok h
+  | inr r ↦ (let (i, li, w, s) = r in let (j, us, u, v, vs, turn) = turn_found d ok i w li s in absurd (no_turn j us u v vs turn))
+]
