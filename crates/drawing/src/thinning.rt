@@ -48,7 +48,7 @@ fn thin_strand(offsets: &[u32], gone: &[bool], places: &[u32], exits: &mut Items
 {
     let mut kept = 0;
     for at in 0..exits.len() {
-        let exit = exits.as_slice()[at];
+        let exit = *exits.item(at);
         let number = offsets[exit.side.number() as usize] as usize + exit.place as usize;
         if !gone[number] {
             exits.set(
