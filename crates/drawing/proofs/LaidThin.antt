@@ -2,7 +2,7 @@
 use Rattle.std.proofs.Common.{◌≡◌, ℕ, suc, ◌+◌, ◌-◌, ◌<◌, ◌≤◌, ◌^◌, Bool, true, false, not, List, [], ◌∷◌, ◌++◌, drop, filter, get_or, length, map, take, refl, sym, ◌∙◌, ap, ap₂, subst, arith, le_refl, inl, inr}
 use Rattle.std.specs.List.{sum_by}
 use Rattle.std.proofs.lemmas.Bool.{cases_Bool}
-use Rattle.std.proofs.lemmas.List.{append-nil, drop_all, take_all}
+
 use Rattle.obd_base.specs.Lists.{Mem, below}
 use Rattle.obd_base.specs.declared.points.Exit.{Exit}
 use Rattle.obd_base.proofs.lists.Below.{mem_below}
@@ -14,17 +14,11 @@ use Rattle.drawing.specs.Pieces.{span_count}
 use Rattle.drawing.specs.Thinned.{AreNumbered, IsAlike, IsKnown, is_gone, moved_offsets, number_of, places_kept, points_left, thinned, thinned_by, thinned_exits}
 use Rattle.drawing.proofs.Ends.{place_in, side_in}
 use Rattle.drawing.proofs.LayoutTables.{offset_count, offset_read, offset_within, seen_laid}
-use Rattle.drawing.proofs.Lists.{mem_flat}
+use Rattle.drawing.proofs.Lists.{mem_flat, written_back}
 use Rattle.drawing.proofs.Spots.{offset_rises, offset_suc}
 use Rattle.drawing.proofs.ThinTables.{begins}
 use Rattle.drawing.proofs.Thinned.{points_thinned}
 use Rattle.drawing.proofs.tight.Maps.{map_same}
-
--- what is written back whole is what was written
-written_back : {X : Type 0} (n : ℕ) (old new : List X) → length new ≡ n → length old ≡ n → take n (new ++ drop (length new) old) ≡ new
-written_back n old new a b =
-    let rest : drop (length new) old ≡ [] = drop_all (length new) old (omega (arith, a, b)) in
-    rw (rest, append-nil new) (take_all n new (omega (arith, a)))
 
 module _ (p : Polygon) (strands : List (List Exit)) (d : Drawing) (seen : drawn p strands ≡ d) (offsets : List ℕ) (laid : IsLaidOut (drawn p strands) offsets) (ok : IsEmbedded d)
     (gone : List Bool) (places : List ℕ) (room : span_count d ≤ length gone) (places_room : span_count d ≤ length places) (numbered : AreNumbered d (is_gone gone) (sides d.polygon) places) where

@@ -32,6 +32,7 @@ pub mod Tests
 pub mod TreeExamples
 pub mod TreeLaws
 pub mod Thinned
+mod ThinKept
 mod ThinTables
 mod tight
 mod TurnTables
