@@ -55,10 +55,11 @@ module _ (offsets : List ℕ) (gone : List Bool) (places : List ℕ) where
       → (take (kept + 1) (set now kept (moved e)) ≡ thinned_by offsets gone places (take (at + 1) start)) × (drop (at + 1) (set now kept (moved e)) ≡ drop (at + 1) start)
   thinned_kept start now kept at e within l is so_far left stay =
       let before = item_before start now at e left l is in
-      let one : map moved (filter stays (e ∷ [])) ≡ moved e ∷ [] = rw stay refl in
-      (take_more_set now kept (moved e) (omega (arith, within, still_there start now at left l))
-      ∙ (ap (λ xs. xs ++ moved e ∷ []) so_far ∙ (ap (λ xs. thinned_by offsets gone places (take at start) ++ xs) (sym one) ∙ sym (thinned_more start at e l before))),
-      drop-set-lt (at + 1) now kept (moved e) (omega (arith, within)) ∙ drop_more_same now start at left)
+      let one : map moved (filter stays (e ∷ [])) ≡ moved e ∷ [] = rw stay refl in (
+        take_more_set now kept (moved e) (omega (arith, within, still_there start now at left l))
+            ∙ (ap (λ xs. xs ++ moved e ∷ []) so_far ∙ (ap (λ xs. thinned_by offsets gone places (take at start) ++ xs) (sym one) ∙ sym (thinned_more start at e l before))),
+        drop-set-lt (at + 1) now kept (moved e) (omega (arith, within)) ∙ drop_more_same now start at left,
+      )
 
   -- one that is gone is passed
   pub thinned_passed : (start now : List Exit) (kept at : ℕ) (e : Exit) → at < length start → e ≡ get_or now at e
@@ -66,10 +67,11 @@ module _ (offsets : List ℕ) (gone : List Bool) (places : List ℕ) where
       → (take kept now ≡ thinned_by offsets gone places (take (at + 1) start)) × (drop (at + 1) now ≡ drop (at + 1) start)
   thinned_passed start now kept at e l is so_far left out =
       let before = item_before start now at e left l is in
-      let one : map moved (filter stays (e ∷ [])) ≡ [] = rw out refl in
-      (so_far ∙ (sym (append-nil (thinned_by offsets gone places (take at start)))
-      ∙ (ap (λ xs. thinned_by offsets gone places (take at start) ++ xs) (sym one) ∙ sym (thinned_more start at e l before))),
-      drop_more_same now start at left)
+      let one : map moved (filter stays (e ∷ [])) ≡ [] = rw out refl in (
+        so_far ∙ (sym (append-nil (thinned_by offsets gone places (take at start)))
+            ∙ (ap (λ xs. thinned_by offsets gone places (take at start) ++ xs) (sym one) ∙ sym (thinned_more start at e l before))),
+        drop_more_same now start at left,
+      )
 
 -- a row that isn't read yet is the one that was
 pub row_unread : {X : Type 0} (f : X → X) (start now : List X) (at : ℕ) (x : X) → now ≡ map f (take at start) ++ drop at start → at < length start → get_or now at x ≡ get_or start at x

@@ -98,5 +98,5 @@ pair_taken d ok i exits at out back old mid new turns li es one l io ib turn x y
     let splits = split_at exits (at - 1) out back (omega (arith, l, e)) io ib' in
     turns_gone_same d ok (turn_gone d out back (is_gone old)) (is_gone new) (turns + 1) (λ x k. gone_both d out back old mid new first second x)
     (turns_gone_more d ok (is_gone old) turns taken i (take (at - 1) exits) out back (drop (suc (suc (at - 1))) exits)
-      (record { arc = li; splits = sym es ∙ splits; returns = turn.returns; neighbours = turn.neighbours })
-      (subst (λ (n : ℕ). is_gone old n ≡ false) ix out_stays) (subst (λ (n : ℕ). is_gone old n ≡ false) iy back_stays))
+    (record { arc = li; splits = sym es ∙ splits; returns = turn.returns; neighbours = turn.neighbours })
+    (subst (λ (n : ℕ). is_gone old n ≡ false) ix out_stays) (subst (λ (n : ℕ). is_gone old n ≡ false) iy back_stays))

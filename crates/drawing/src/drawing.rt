@@ -79,6 +79,7 @@ impl Drawing {
 
     // Takes turns out of the strands, one with each point at most; answers how many. Linear in the exits and sides.
     fn take_turns(&mut self) -> u32
+        ensures valid { IsEmbedded self.old }
         ensures loosened { Loosened self.old self.new }
         ensures fewer { length (all_exits self.new) + (result + result) ≡ length (all_exits self.old) }
         ensures tight { result ≡ 0 → IsTight self.new }
@@ -173,7 +174,10 @@ impl Drawing {
         ensures { result ≡ borders self.now (chord_at self.now strand chord) (spot self.now (exit side segment)) }
     {
         let start = self.layout.spot(chord_start(&self.layout, strand, chord));
-        let segment = self.layout.spot(Exit { side, place: segment });
+        let segment = self.layout.spot(Exit {
+            side,
+            place: segment,
+        });
         same_piece(&self.layout, start, segment) || same_piece(&self.layout, start + 1, segment)
     }
 

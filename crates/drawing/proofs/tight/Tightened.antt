@@ -111,7 +111,7 @@ words_are : (d : Drawing) (n : ℕ) → length d.strands ≡ n → words d ≡ m
 words_are d n e = ap (map letters) (by_entries [] d.strands n e) ∙ map-map letters (λ i. get_or d.strands i []) (below n)
 
 -- where a drawing is loosened until it is tight, its words are the reduced ones
-tight_words : (d e : Drawing) → IsEmbedded d → Loosened d e → IsTight e → words e ≡ map (reduced d.polygon) (words d)
+pub tight_words : (d e : Drawing) → IsEmbedded d → Loosened d e → IsTight e → words e ≡ map (reduced d.polygon) (words d)
 tight_words d e ok r tight =
     let n = arc_count d.polygon in
     let len : length e.strands ≡ n = r.embedded.strand_count ∙ ap arc_count r.polygon in
