@@ -1,6 +1,5 @@
 -- A drawing without the points that are gone, as it is laid out from the tables.
-use Rattle.std.proofs.Common.{◌≡◌, ℕ, suc, ◌+◌, ◌-◌, ◌<◌, ◌≤◌, ◌^◌, Bool, true, false, not, List, [], ◌∷◌, ◌++◌, drop, filter, get_or, length, map, take, refl, sym, ◌∙◌, ap, ap₂, subst, arith, le_refl, inl, inr}
-use Rattle.std.specs.List.{sum_by}
+use Rattle.std.proofs.Common.{◌≡◌, ℕ, suc, ◌+◌, ◌-◌, ◌<◌, ◌≤◌, ◌^◌, Bool, true, false, List, [], ◌∷◌, ◌++◌, drop, get_or, length, map, take, refl, sym, ◌∙◌, ap, ap₂, subst, arith, le_refl, inl, inr}
 use Rattle.std.proofs.lemmas.Bool.{cases_Bool}
 use Rattle.obd_base.specs.Lists.{Mem, below}
 use Rattle.obd_base.specs.declared.points.Exit.{Exit}

@@ -1,8 +1,7 @@
 -- New places of the points that stay, as the tables tell them.
-use Rattle.std.proofs.Common.{◌≡◌, ℕ, suc, ◌+◌, ◌<◌, ◌≤◌, Bool, true, false, not, List, get_or, length, set, refl, sym, ◌∙◌, ap, subst, arith, inl, inr}
-use Rattle.std.proofs.lemmas.Bool.{cases_eq, cases_lt}
+use Rattle.std.proofs.Common.{◌≡◌, ℕ, suc, ◌+◌, ◌<◌, ◌≤◌, Bool, true, false, not, List, get_or, length, set, sym, ◌∙◌, ap, subst, arith, inl, inr}
+use Rattle.std.proofs.lemmas.Bool.{cases_eq}
 use Rattle.std.proofs.lemmas.List.{get_or-set_other, get_or-set_same}
-use Rattle.obd_base.specs.Lists.{below}
 use Rattle.obd_base.proofs.lists.Below.{bit, count_suc}
 use Rattle.page_surface.specs.Drawing.{Drawing, exit, offset, points_on, spot}
 use Rattle.drawing.specs.Thinned.{AreNumbered, is_gone, places_kept}

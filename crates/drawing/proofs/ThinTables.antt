@@ -1,5 +1,5 @@
 -- The exits that stay, moved to the front of a strand, and where the sides begin then.
-use Rattle.std.proofs.Common.{◌≡◌, ℕ, suc, ◌+◌, ◌-◌, ◌<◌, ◌≤◌, ◌^◌, Bool, true, false, not, List, [], ◌∷◌, ◌++◌, drop, filter, get_or, length, map, set, take, refl, sym, ◌∙◌, ap, ap₂, subst, append_assoc, arith, inl, inr}
+use Rattle.std.proofs.Common.{◌≡◌, ℕ, suc, ◌+◌, ◌-◌, ◌<◌, ◌≤◌, ◌^◌, Bool, true, false, not, List, [], ◌∷◌, ◌++◌, drop, filter, get_or, length, map, set, take, refl, sym, ◌∙◌, ap, subst, append_assoc, arith, inl, inr}
 use Rattle.std.proofs.lemmas.Bool.{cases_eq}
 use Rattle.std.proofs.lemmas.List.{append-nil, drop-set-lt, drop_more, get_or-drop, get_or-set_other, get_or-set_same, get_or_at, length-drop, length-map, length-take-le, map-append, set_at, take_more, take_more_set}
 use Rattle.std.proofs.lemmas.List.Elements.{filter-append}

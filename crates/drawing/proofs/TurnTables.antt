@@ -1,5 +1,5 @@
 -- Turns found along a strand, and the table of what they take out.
-use Rattle.std.proofs.Common.{◌≡◌, ℕ, zero, suc, ◌+◌, ◌-◌, ◌<◌, ◌≤◌, Bool, true, false, eqb, ◌||◌, List, [], ◌∷◌, ◌++◌, drop, get_or, length, take, refl, sym, ◌∙◌, ap, ap₂, subst, take-append-drop, arith, inl, inr}
+use Rattle.std.proofs.Common.{◌≡◌, ℕ, suc, ◌+◌, ◌-◌, ◌<◌, ◌≤◌, Bool, true, false, eqb, ◌||◌, List, [], ◌∷◌, ◌++◌, drop, get_or, length, take, refl, sym, ◌∙◌, ap, ap₂, subst, take-append-drop, arith, inl, inr}
 use Rattle.std.proofs.lemmas.Bool.{cases_eq, cases_lt, false≢true}
 use Rattle.std.proofs.lemmas.List.{drop_more, get_or_read}
 use Rattle.obd_base.specs.declared.points.Exit.{Exit}
@@ -8,7 +8,7 @@ use Rattle.page_surface.specs.Polygon.{arc_count}
 use Rattle.drawing.specs.Pieces.{span_count}
 use Rattle.drawing.specs.Thinned.{IsPointGone, TurnsGone, is_gone, turn_gone}
 use Rattle.drawing.specs.Tight.{IsTight}
-use Rattle.drawing.specs.Turns.{IsTurn, NoTurnBefore, TurnsBack}
+use Rattle.drawing.specs.Turns.{NoTurnBefore, TurnsBack}
 use Rattle.drawing.proofs.Thinned.{turns_gone_more, turns_gone_same}
 use Rattle.drawing.proofs.tight.Tightened.{tight_without_turns}
 

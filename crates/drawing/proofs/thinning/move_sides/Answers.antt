@@ -1,4 +1,4 @@
-use Rattle.std.proofs.Common.{◌≡◌, ◌+◌, ◌-◌, ◌<◌, suc, ap, arith, length, subst, sym}
+use Rattle.std.proofs.Common.{arith}
 use Rattle.drawing.proofs.ThinTables.{side_moved, side_written, sides_left, sides_moved, side_fits}
 use Rattle.drawing.proofs.thinning.move_sides.Goals as goal
 

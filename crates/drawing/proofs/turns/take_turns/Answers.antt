@@ -1,5 +1,5 @@
 use Rattle.std.proofs.Common.{ap, arith, false, sym}
-use Rattle.page_surface.specs.Polygon.{arc_count, sides}
+use Rattle.page_surface.specs.Polygon.{sides}
 use Rattle.drawing.specs.Thinned.{is_gone}
 use Rattle.drawing.proofs.Thinned.{turns_gone_none, turns_gone_same}
 use Rattle.drawing.proofs.TurnTables.{no_turn_strands, no_turn_tight}
