@@ -10,6 +10,7 @@ mod IdentityEmbedded
 mod IdentityTables
 mod KeptTables
 pub mod Laws
+mod LaidThin
 mod LayoutTables
 pub mod Lists
 mod Mates
@@ -17,6 +18,7 @@ mod Orbits
 mod PieceCount
 mod PieceTrees
 mod Placed
+mod PlaceTables
 mod RoundPiece
 pub mod SamePiece
 mod Hits
@@ -30,5 +32,8 @@ pub mod Tests
 pub mod TreeExamples
 pub mod TreeLaws
 pub mod Thinned
+mod ThinKept
+mod ThinTables
 mod tight
+mod TurnTables
 pub mod TightLaws

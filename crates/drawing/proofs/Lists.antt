@@ -1,6 +1,7 @@
 -- Members of joined lists, and the first number that passes a test.
-use Rattle.std.proofs.Common.{◌≡◌, ℕ, zero, suc, ◌<◌, Bool, true, false, List, [], ◌∷◌, map, length, get_or, eqb, refl, sym, ◌∙◌, ap, subst, arith, zero-add, inl, inr}
+use Rattle.std.proofs.Common.{◌≡◌, ℕ, zero, suc, ◌<◌, Bool, true, false, List, [], ◌∷◌, ◌++◌, drop, map, length, get_or, take, eqb, refl, sym, ◌∙◌, ap, subst, arith, zero-add, inl, inr}
 use Rattle.std.specs.List.{flat_map, position_or_len, sum_by}
+use Rattle.std.proofs.lemmas.List.{append-nil, drop_all, take_all}
 use Rattle.std.proofs.lemmas.List.Sums.{sum_by-cons, position_or_len_is, fails_before_first}
 use Rattle.std.proofs.lemmas.List.FromFn.{length-range_with_len, get_or-range_with_len}
 use Rattle.std.proofs.lemmas.Bool.{cases_Bool, eqb-true, eq-eqb, false≢true}
@@ -67,3 +68,9 @@ has_mem (x ∷ xs) s (inr m) = elim (cases_Bool (eqb s x)) [ inl q ↦ rw q | in
 pub mem_has : (xs : List ℕ) (s : ℕ) → has xs s ≡ true → Mem s xs
 mem_has [] s h = absurd (false≢true h)
 mem_has (x ∷ xs) s h = elim (cases_Bool (eqb s x)) [ inl q ↦ inl (eqb-true s x q) | inr q ↦ inr (mem_has xs s (let k : has xs s ≡ true = rw q at h in k)) ]
+
+-- what is written back whole is what was written
+pub written_back : {X : Type 0} (n : ℕ) (old new : List X) → length new ≡ n → length old ≡ n → take n (new ++ drop (length new) old) ≡ new
+written_back n old new a b =
+    let rest : drop (length new) old ≡ [] = drop_all (length new) old (omega (arith, a, b)) in
+    rw (rest, append-nil new) (take_all n new (omega (arith, a)))

@@ -50,12 +50,6 @@ pub record IsSetBelow (d : Drawing) (n : ℕ) (table : List ℕ) : Type 0 where
   pub size : length table ≡ span_count d
   pub each : (i k j : ℕ) → i < n → k < sides d.polygon → j < points_on d k → meets d (strand_exits d i) (offset d k + j) ≡ true → get_or table (offset d k + j) 0 ≡ i
 
--- a slice written back whole
-pub written_back : (n : ℕ) (old new : List ℕ) → length new ≡ n → length old ≡ n → take n (new ++ drop (length new) old) ≡ new
-written_back n old new a b =
-    let rest : drop (length new) old ≡ [] = drop_all (length new) old (omega (arith, a, b)) in
-    rw (rest, append-nil new) (take_all n new (omega (arith, a)))
-
 module _ (d : Drawing) (ok : IsPlaced d) where
   -- an exit of a strand is one of all
   pub of_strand : (i : ℕ) (e : Exit) → Mem e (strand_exits d i) → Mem e (all_exits d)
@@ -136,7 +130,7 @@ module _ (d : Drawing) (ok : IsPlaced d) where
       ])
 
   -- one strand more
-  pub set_more : (n : ℕ) (old new : List ℕ) → n < arc_count d.polygon → IsSetBelow d n old → length new ≡ length old
+  set_more : (n : ℕ) (old new : List ℕ) → n < arc_count d.polygon → IsSetBelow d n old → length new ≡ length old
       → ((x : ℕ) → x < span_count d → get_or new x 0 ≡ cond (meets d (strand_exits d n) x) n (get_or old x 0)) → IsSetBelow d (n + 1) new
   set_more n old new l h size more = record {
     size = size ∙ h.size;
@@ -149,15 +143,11 @@ module _ (d : Drawing) (ok : IsPlaced d) where
         ];
   }
 
-  -- the same of what the code reads and writes
-  pub set_back : (n s len : ℕ) (old shown new : List ℕ) → n < arc_count d.polygon → s ≡ n → shown ≡ old → length shown ≡ len → length new ≡ length shown → IsSetBelow d n old
-      → ((x : ℕ) → x < span_count d → get_or new x 0 ≡ cond (meets d (strand_exits d s) x) s (get_or shown x 0))
-      → IsSetBelow d (n + 1) (take len (new ++ drop (length new) old))
-  set_back n s len old shown new l same is size kept h step =
-      let e = ap length is in
-      let back = written_back len old new (omega (arith, kept, size)) (omega (arith, e, size)) in
-      subst (λ (t : List ℕ). IsSetBelow d (n + 1) t) (sym back)
-      (set_more n old new l h (omega (arith, kept, e)) (λ x lx. step x lx ∙ ap₂ (λ (i : ℕ) (t : List ℕ). cond (meets d (strand_exits d i) x) i (get_or t x 0)) same is))
+  -- the same of the number that the code has
+  pub set_next : (n s : ℕ) (old new : List ℕ) → n < arc_count d.polygon → s ≡ n → length new ≡ length old → IsSetBelow d n old
+      → ((x : ℕ) → x < span_count d → get_or new x 0 ≡ cond (meets d (strand_exits d s) x) s (get_or old x 0)) → IsSetBelow d (n + 1) new
+  set_next n s old new l same size h step =
+      set_more n old new l h size (subst (λ (i : ℕ). (x : ℕ) → x < span_count d → get_or new x 0 ≡ cond (meets d (strand_exits d i) x) i (get_or old x 0)) same step)
 
   -- the table of all strands
   pub set_all : (n : ℕ) (table : List ℕ) → arc_count d.polygon ≤ n → IsSetBelow d n table → IsStrandTable d table

@@ -1,5 +1,5 @@
 -- Turns of a drawing with no common points, taken out all at once: the outcome is reached by taking them out one by one.
-use Rattle.std.proofs.Common.{◌≡◌, ℕ, ◌+◌, ◌-◌, ◌<◌, ◌≤◌, Bool, true, false, cond, eqb, not, List, [], ◌∷◌, ◌++◌, map, refl, sym, ◌∙◌, ap, subst, arith, inl, inr}
+use Rattle.std.proofs.Common.{◌≡◌, ℕ, ◌+◌, ◌-◌, ◌<◌, ◌≤◌, Bool, true, false, cond, eqb, not, List, [], ◌∷◌, ◌++◌, map, length, refl, sym, ◌∙◌, ap, subst, arith, inl, inr}
 use Rattle.std.proofs.lemmas.Bool.{cases_Bool, cases_eq, eq-eqb, ne_eqb}
 use Rattle.std.proofs.lemmas.List.{get_or-map}
 use Rattle.obd_base.specs.Lists.{below, Mem}
@@ -21,6 +21,7 @@ use Rattle.drawing.proofs.tight.Tightened.{loosened_same, loosened_then, loosene
 use Rattle.drawing.proofs.tight.TurnCounts.{kept_far, kept_near, row, row_kept}
 use Rattle.drawing.proofs.tight.TurnGone.{IsElse, gone_back, gone_else, gone_out, kept_exits, kept_lowered, kept_meet}
 use Rattle.drawing.proofs.tight.TurnGone
+use Rattle.drawing.proofs.tight.TurnRemoved.{exits_fewer}
 
 -- a side of a thinned drawing has the points that stay
 pub points_thinned : (d : Drawing) → IsEmbedded d → (gone : ℕ → Bool) → IsAlike d gone → (k : ℕ) → k < sides d.polygon
@@ -207,20 +208,34 @@ module _ (d : Drawing) (ok : IsEmbedded d) (gone : ℕ → Bool) (alike : IsAlik
     loosened_more r = loosened_then d now (thinned d after) r (subst (λ e. Loosened now e) turn_out_thinned (loosened_turn now r.embedded i (thin us) out back (thin vs) turn_thinned))
 
 -- at first nothing is gone
-pub turns_gone_none : (d : Drawing) → IsEmbedded d → TurnsGone d (λ x. false)
-turns_gone_none d ok = record { alike = λ k j l h. refl; loosened = loosened_none d ok }
-
--- a turn of the drawing with no point that is gone may go too
-pub turns_gone_more : (d : Drawing) → IsEmbedded d → (gone : ℕ → Bool) → TurnsGone d gone → (i : ℕ) (us : List Exit) (u v : Exit) (vs : List Exit) → IsTurn d i us u v vs
-    → gone (spot d u) ≡ false → gone (spot d v) ≡ false → TurnsGone d (turn_gone d u v gone)
-turns_gone_more d ok gone r i us u v vs turn out_stays back_stays = record {
-  alike = still_alike d ok gone r.alike i us u v vs turn;
-  loosened = loosened_more d ok gone r.alike i us u v vs turn out_stays back_stays r.loosened;
+pub turns_gone_none : (d : Drawing) → IsEmbedded d → TurnsGone d (λ x. false) 0
+turns_gone_none d ok = record {
+  alike = λ k j l h. refl;
+  loosened = loosened_none d ok;
+  fewer = omega (arith, ap (λ e. length (all_exits e)) (thinned_none d));
+  none = λ z x l. refl;
 }
 
+-- a turn of the drawing with no point that is gone may go too
+pub turns_gone_more : (d : Drawing) → IsEmbedded d → (gone : ℕ → Bool) (turns : ℕ) → TurnsGone d gone turns → (i : ℕ) (us : List Exit) (u v : Exit) (vs : List Exit) → IsTurn d i us u v vs
+    → gone (spot d u) ≡ false → gone (spot d v) ≡ false → TurnsGone d (turn_gone d u v gone) (turns + 1)
+turns_gone_more d ok gone turns r i us u v vs turn out_stays back_stays =
+    let now = thinned d gone in
+    let same = turn_out_thinned d ok gone r.alike i us u v vs turn out_stays back_stays in
+    let out = exits_fewer now r.loosened.embedded i (thinned_exits d gone us) (thinned_exit d gone u) (thinned_exit d gone v) (thinned_exits d gone vs)
+    (turn_thinned d ok gone r.alike i us u v vs turn out_stays back_stays) in
+    record {
+      alike = still_alike d ok gone r.alike i us u v vs turn;
+      loosened = loosened_more d ok gone r.alike i us u v vs turn out_stays back_stays r.loosened;
+      fewer = omega (arith, out, r.fewer, ap (λ e. length (all_exits e)) same);
+      none = λ z. absurd (omega (arith, z));
+    }
+
 -- only the numbers of the drawing matter
-pub turns_gone_same : (d : Drawing) → IsEmbedded d → (gone other : ℕ → Bool) → ((x : ℕ) → x < span_count d → gone x ≡ other x) → TurnsGone d gone → TurnsGone d other
-turns_gone_same d ok gone other same r = record {
+pub turns_gone_same : (d : Drawing) → IsEmbedded d → (gone other : ℕ → Bool) (turns : ℕ) → ((x : ℕ) → x < span_count d → gone x ≡ other x) → TurnsGone d gone turns → TurnsGone d other turns
+turns_gone_same d ok gone other turns same r = record {
   alike = alike_same d ok gone other same r.alike;
   loosened = subst (λ e. Loosened d e) (thinned_same d ok gone other same) r.loosened;
+  fewer = subst (λ e. length (all_exits e) + (turns + turns) ≡ length (all_exits d)) (thinned_same d ok gone other same) r.fewer;
+  none = λ z x l. sym (same x l) ∙ r.none z x l;
 }

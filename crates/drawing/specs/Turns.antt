@@ -1,5 +1,5 @@
 -- Innermost turns of strands, a drawing without one, and what comes when turns are taken out.
-use Rattle.std.specs.Prelude.{◌≡◌, ℕ, ◌+◌, ◌-◌, ◌<◌, ◌⊎◌, min, cond, nat_eq, nat_lt, List, ◌∷◌, ◌++◌, map}
+use Rattle.std.specs.Prelude.{◌≡◌, ℕ, suc, ◌+◌, ◌-◌, ◌<◌, ◌⊎◌, min, cond, nat_eq, nat_lt, List, ◌∷◌, ◌++◌, map, slice_index_or}
 use Rattle.std.specs.List.{enumerate_from}
 use Rattle.obd_base.specs.declared.points.Exit.{Exit}
 use Rattle.page_surface.specs.Polygon.{partner, arc_count}
@@ -12,6 +12,15 @@ pub record IsTurn (d : Drawing) (i : ℕ) (before : List Exit) (out back : Exit)
   pub splits : strand_exits d i ≡ before ++ (out ∷ back ∷ after)
   pub returns : back.side ≡ partner d.polygon out.side
   pub neighbours : (out.place + back.place ≡ points_on d out.side) ⊎ (out.place + back.place + 2 ≡ points_on d out.side)
+
+-- the same of two exits of which the one follows the other
+pub record TurnsBack (d : Drawing) (out back : Exit) : Type 0 where
+  pub returns : back.side ≡ partner d.polygon out.side
+  pub neighbours : (out.place + back.place ≡ points_on d out.side) ⊎ (out.place + back.place + 2 ≡ points_on d out.side)
+
+-- no two exits of a strand that follow one another turn back, before the exit with a number
+abbrev pub NoTurnBefore : Drawing → List Exit → ℕ → Type 0
+NoTurnBefore d exits at = (n : ℕ) (out back : Exit) → suc n < at → out ≡ slice_index_or exits n out → back ≡ slice_index_or exits (suc n) back → TurnsBack d out back → ⊥
 
 -- the lesser of the two places that a turn takes on the side it leaves through
 abbrev pub turn_place : Drawing → Exit → Exit → ℕ

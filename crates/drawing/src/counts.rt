@@ -39,11 +39,11 @@ pub(crate) fn side_counts(
 }
 
 // Where each side begins, and where the last one ends: a side takes two numbers more than it has points.
-pub(crate) fn offsets(alloc: Global, counts: &[u32]) -> Result<Items<u32>, NoMemory>
+pub(crate) fn offsets(alloc: Global, counts: &[u32]) -> Result<Vec<u32>, NoMemory>
     requires { sum_by (λ count. count + 2) counts.now < 2 ^ 30 }
-    ensures { IfOk result (λ offsets. offsets ≡ map (λ k. sum_by (λ count. count + 2) (take k counts.now)) (below (suc (length counts.now)))) }
+    ensures { IfOk result (λ offsets. offsets.items ≡ map (λ k. sum_by (λ count. count + 2) (take k counts.now)) (below (suc (length counts.now)))) }
 {
-    let mut offsets = Items::new(alloc);
+    let mut offsets = Vec::new(alloc);
     let mut offset: u32 = 0;
     offsets.push(offset)?;
     for count in counts {

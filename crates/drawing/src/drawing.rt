@@ -1,14 +1,18 @@
 // A drawing and what it tells of itself.
-ghost use Rattle.std.specs.Prelude.{◌≡◌, ◌<◌, ◌≤◌, ◌^◌, suc, map, length, slice_get, IfOk};
+ghost use Rattle.std.specs.Prelude.{◌≡◌, ◌+◌, ◌<◌, ◌≤◌, ◌^◌, suc, map, length, slice_get, IfOk};
 ghost use Rattle.std.specs.List.{flat_map};
-ghost use Rattle.page_surface.specs.Drawing.{IsEmbedded, all_exits, exit, points_on, spot, strand_exits};
+ghost use Rattle.page_surface.specs.Drawing.{IsEmbedded, all_exits, exit, points_on, spot, strand_exits, words};
 ghost use Rattle.page_surface.specs.Polygon.{arc_count, sides};
 ghost use Rattle.drawing.specs.Fingers.{borders, chord_at};
 ghost use Rattle.drawing.specs.Strands.{strand_at};
+ghost use Rattle.drawing.specs.Tight.{IsTight, tight_drawing};
+ghost use Rattle.drawing.specs.Turns.{Loosened};
+ghost use Rattle.page_surface.specs.Words.{reduced};
 
 use crate::layout::Layout;
 use crate::pieces::{chord_start, same_piece};
-use crate::strands::strand_table;
+use crate::strands::{set_strands, strand_table};
+use crate::turns::take_turns;
 use obd_base::{Exit, Items, NoMemory, SideNo, StrandNo};
 use page_surface::Polygon;
 use std::alloc::Global;
@@ -24,7 +28,9 @@ pub struct Drawing {
     alloc: Global,
     layout: Layout,
     points: u32,
-    strands_at: Items<StrandNo>,
+    strands_at: Vec<StrandNo>,
+    gone: Vec<bool>,
+    places: Vec<u32>,
 }
 
 impl Model for Drawing {
@@ -35,7 +41,7 @@ impl Model for Drawing {
 
     ghost view = { λ d. d.layout };
 
-    ghost invariant = { λ d. IsKept d.layout d.points d.strands_at };
+    ghost invariant = { λ d. IsKept d.layout d.points d.strands_at.items d.gone.items d.places.items };
 }
 
 // How many exits some strands have together. There are at most 8 strands.
@@ -59,12 +65,50 @@ impl Drawing {
     {
         let strands_at = strand_table(alloc, &layout)?;
         let points = exit_count(layout.strands());
+        let gone = vec![in alloc; false; layout.span_count() as usize]?;
+        let places = vec![in alloc; 0; layout.span_count() as usize]?;
         Ok(Drawing {
             alloc,
             layout,
             points,
             strands_at,
+            gone,
+            places,
         })
+    }
+
+    // Takes turns out of the strands, one with each point at most; answers how many. Linear in the exits and sides.
+    fn take_turns(&mut self) -> u32
+        ensures valid { IsEmbedded self.old }
+        ensures loosened { Loosened self.old self.new }
+        ensures fewer { length (all_exits self.new) + (result + result) ≡ length (all_exits self.old) }
+        ensures tight { result ≡ 0 → IsTight self.new }
+    {
+        self.gone.fill(false);
+        let turns = take_turns(&self.layout, &mut self.gone);
+        if turns > 0 {
+            self.layout.thin(&self.gone, &mut self.places);
+            self.points -= 2 * turns;
+            self.strands_at.truncate(self.layout.span_count() as usize);
+            set_strands(&self.layout, &mut self.strands_at);
+        }
+        turns
+    }
+
+    /// Makes the drawing tight: takes out innermost turns, which are two neighbouring points of one side that are the
+    /// two ends of one chord, until no word has a cancelling pair. What is left is the tight drawing of the reduced
+    /// words, whatever the order. Takes no memory.
+    ///
+    /// Passes over all exits and sides, each linear, at most one more than the depth to which turns are nested.
+    pub fn tighten(&mut self)
+        ensures words { words self.new ≡ map (reduced self.old.polygon) (words self.old) }
+        ensures tight { IsTight self.new }
+        ensures drawing { self.new ≡ tight_drawing self.old.polygon (map (reduced self.old.polygon) (words self.old)) }
+    {
+        let mut turns = self.take_turns();
+        while turns > 0 {
+            turns = self.take_turns();
+        }
     }
 
     /// The polygon in which the strands lie. Constant time, as are the calls below but `pieces_share`, `word`
@@ -130,7 +174,10 @@ impl Drawing {
         ensures { result ≡ borders self.now (chord_at self.now strand chord) (spot self.now (exit side segment)) }
     {
         let start = self.layout.spot(chord_start(&self.layout, strand, chord));
-        let segment = self.layout.spot(Exit { side, place: segment });
+        let segment = self.layout.spot(Exit {
+            side,
+            place: segment,
+        });
         same_piece(&self.layout, start, segment) || same_piece(&self.layout, start + 1, segment)
     }
 

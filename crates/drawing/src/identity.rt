@@ -25,7 +25,7 @@ impl Drawing {
     pub fn identity(alloc: Global, polygon: &Polygon) -> Result<Drawing, NoMemory>
         ensures { IfOk result (λ drawing. drawing ≡ identity polygon.now) }
     {
-        let mut strands = Items::new(alloc);
+        let mut strands = Vec::new(alloc);
         for arc in 0..polygon.sides() / 2 {
             let first_side = polygon.first_side(ArcNo::new(arc));
             strands.push(crossing(alloc, polygon.pair(first_side))?)?;

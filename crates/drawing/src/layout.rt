@@ -1,12 +1,14 @@
 // A written drawing with its place order.
 ghost use Rattle.std.specs.Prelude.{◌≡◌, ◌+◌, ◌<◌, ◌≤◌, ◌^◌, true, length, nat_lt, IfOk};
 ghost use Rattle.std.specs.List.{list_all};
-ghost use Rattle.page_surface.specs.Drawing.{all_exits, end_of, entry, points_on, spot, strand_exits};
+ghost use Rattle.page_surface.specs.Drawing.{IsEmbedded, all_exits, end_of, entry, points_on, spot, strand_exits};
 ghost use Rattle.page_surface.specs.Polygon.{arc_count, sides};
 ghost use Rattle.drawing.specs.Layout.{IsWritten, drawn};
 ghost use Rattle.drawing.specs.Pieces.{span_count};
+ghost use Rattle.drawing.specs.Thinned.{IsAlike, is_gone, thinned};
 
 use crate::counts::{joined, offsets, side_counts};
+use crate::thinning::{move_sides, number_points, thin_strands};
 use obd_base::{Exit, Items, NoMemory, SideNo, StrandNo};
 use page_surface::Polygon;
 use std::alloc::Global;
@@ -18,8 +20,8 @@ use std::marker::Model;
 #[derive(Drop)]
 pub(crate) struct Layout {
     polygon: Polygon,
-    strands: Items<Items<Exit>>,
-    offsets: Items<u32>,
+    strands: Vec<Items<Exit>>,
+    offsets: Vec<u32>,
 }
 
 impl Model for Layout {
@@ -28,9 +30,9 @@ impl Model for Layout {
 
     ghost Value = { Shown };
 
-    ghost view = { λ l. record { polygon = l.polygon; strands = l.strands } };
+    ghost view = { λ l. record { polygon = l.polygon; strands = l.strands.items } };
 
-    ghost invariant = { λ l. IsLaidOut (record { polygon = l.polygon; strands = l.strands }) l.offsets };
+    ghost invariant = { λ l. IsLaidOut (record { polygon = l.polygon; strands = l.strands.items }) l.offsets.items };
 }
 
 impl Layout {
@@ -38,15 +40,15 @@ impl Layout {
     pub(crate) fn of(
         alloc: Global,
         polygon: Polygon,
-        strands: Items<Items<Exit>>,
+        strands: Vec<Items<Exit>>,
     ) -> Result<Layout, NoMemory>
-        requires strands { length strands ≡ arc_count polygon }
-        requires on_sides { list_all (λ e. nat_lt e.side (sides polygon)) (all_exits (drawn polygon strands)) ≡ true }
-        requires few { length (all_exits (drawn polygon strands)) < 2 ^ 28 }
-        ensures { IfOk result (λ layout. layout ≡ drawn polygon strands) }
+        requires strands { length strands.items ≡ arc_count polygon }
+        requires on_sides { list_all (λ e. nat_lt e.side (sides polygon)) (all_exits (drawn polygon strands.items)) ≡ true }
+        requires few { length (all_exits (drawn polygon strands.items)) < 2 ^ 28 }
+        ensures { IfOk result (λ layout. layout ≡ drawn polygon strands.items) }
     {
         let _ = polygon.sides();
-        let exits = joined(alloc, strands.as_slice())?;
+        let exits = joined(alloc, &strands)?;
         let counts = side_counts(alloc, &polygon, &exits)?;
         let offsets = offsets(alloc, &counts)?;
         Ok(Layout {
@@ -67,7 +69,7 @@ impl Layout {
     pub(crate) fn strands(&self) -> &[Items<Exit>]
         ensures { result.now ≡ self.now.strands }
     {
-        self.strands.as_slice()
+        &self.strands
     }
 
     pub(crate) fn exits(&self, strand: StrandNo) -> &[Exit]
@@ -117,6 +119,22 @@ impl Layout {
             side: self.polygon.pair(exit.side),
             place: self.points_on(exit.side) - 1 - exit.place,
         }
+    }
+
+    // Takes out the points that are gone, and numbers the others anew. The new places are written to the second
+    // table. Linear in the exits and sides.
+    pub(crate) fn thin(&mut self, gone: &[bool], places: &mut [u32])
+        requires embedded { IsEmbedded self.old }
+        requires gone_size { span_count self.old ≤ length gone.now }
+        requires places_size { span_count self.old ≤ length places.old }
+        requires alike { IsAlike self.old (is_gone gone.now) }
+        requires left { IsEmbedded (thinned self.old (is_gone gone.now)) }
+        requires few { length (all_exits (thinned self.old (is_gone gone.now))) < 2 ^ 28 }
+        ensures { self.new ≡ thinned self.old (is_gone gone.now) }
+    {
+        number_points(self, gone, places);
+        thin_strands(self.offsets.as_slice(), gone, places, &mut self.strands);
+        move_sides(places, &mut self.offsets);
     }
 
     // The end of a side.

@@ -17,6 +17,8 @@ mod places;
 mod read;
 mod refusal;
 mod strands;
+mod thinning;
+mod turns;
 
 pub use drawing::Drawing;
 pub use refusal::DrawRefusal;

@@ -15,10 +15,10 @@ use page_surface::Polygon;
 use std::alloc::Global;
 
 // Lists of exits of their own.
-fn copied(alloc: Global, strands: &[Vec<Exit>]) -> Result<Items<Items<Exit>>, NoMemory>
-    ensures { IfOk result (λ copy. copy ≡ map (λ strand. strand.items) strands.now) }
+fn copied(alloc: Global, strands: &[Vec<Exit>]) -> Result<Vec<Items<Exit>>, NoMemory>
+    ensures { IfOk result (λ copy. copy.items ≡ map (λ strand. strand.items) strands.now) }
 {
-    let mut copy = Items::new(alloc);
+    let mut copy = Vec::new(alloc);
     for strand in strands {
         copy.push(Items::from_vec(Vec::from_slice(alloc, strand)?))?;
     }

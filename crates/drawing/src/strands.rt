@@ -6,7 +6,7 @@ ghost use Rattle.drawing.specs.Pieces.{span_count};
 ghost use Rattle.drawing.specs.Strands.{IsStrandTable, meets};
 
 use crate::layout::Layout;
-use obd_base::{Items, NoMemory, StrandNo};
+use obd_base::{NoMemory, StrandNo};
 use std::alloc::Global;
 
 // Sets a strand at the numbers of its exits and entries.
@@ -23,14 +23,23 @@ fn set_strand(layout: &Layout, strand: StrandNo, table: &mut [StrandNo])
     }
 }
 
-// The strand at each number of the place order that is a point's. Linear in the exits and sides.
-pub(crate) fn strand_table(alloc: Global, layout: &Layout) -> Result<Items<StrandNo>, NoMemory>
+// Sets the strand at each number of the place order that is a point's. Linear in the exits and sides.
+pub(crate) fn set_strands(layout: &Layout, table: &mut [StrandNo])
+    requires placed { IsPlaced layout.now }
+    requires size { length table.old ≡ span_count layout.now }
+    ensures { IsStrandTable layout.now table.new }
+{
+    for strand in 0..layout.polygon().sides() / 2 {
+        set_strand(layout, StrandNo::new(strand), table);
+    }
+}
+
+// A table of them.
+pub(crate) fn strand_table(alloc: Global, layout: &Layout) -> Result<Vec<StrandNo>, NoMemory>
     requires { IsPlaced layout.now }
-    ensures { IfOk result (IsStrandTable layout.now) }
+    ensures { IfOk result (λ table. IsStrandTable layout.now table.items) }
 {
     let mut table = vec![in alloc; StrandNo::new(0); layout.span_count() as usize]?;
-    for strand in 0..layout.polygon().sides() / 2 {
-        set_strand(layout, StrandNo::new(strand), &mut table);
-    }
-    Ok(Items::from_vec(table))
+    set_strands(layout, &mut table);
+    Ok(table)
 }

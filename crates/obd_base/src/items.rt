@@ -1,5 +1,5 @@
 // A vector that contracts see as a list.
-ghost use Rattle.std.specs.Prelude.{◌≡◌, ◌++◌, ◌∷◌, [], length, OnOk, OnErr, IsTrue, ◌↔◌};
+ghost use Rattle.std.specs.Prelude.{◌≡◌, ◌<◌, ◌++◌, ◌∷◌, [], length, slice_index_or, slice_set, take, OnOk, OnErr, IsTrue, ◌↔◌};
 
 use crate::NoMemory;
 use std::alloc::Global;
@@ -43,6 +43,14 @@ impl<T> Items<T> {
         self.items.as_slice()
     }
 
+    /// The item with a number, from 0.
+    pub fn item(&self, index: usize) -> &T
+        requires { index < length self.now }
+        ensures { result.now ≡ slice_index_or self.now index result.now }
+    {
+        &self.items[index]
+    }
+
     pub fn len(&self) -> usize
         ensures { result ≡ length self.now }
     {
@@ -64,5 +72,24 @@ impl<T> Items<T> {
     {
         self.items.push(item)?;
         Ok(())
+    }
+
+    /// Puts an item in the place of another, numbered from 0.
+    pub fn set(&mut self, index: usize, item: T)
+    where
+        T: Drop,
+        requires { index < length self.old }
+        ensures { self.new ≡ slice_set self.old index item }
+    {
+        self.items[index] = item;
+    }
+
+    /// Keeps the first items, so many of them, or all where there are no more. Takes no memory.
+    pub fn truncate(&mut self, count: usize)
+    where
+        T: Drop,
+        ensures { self.new ≡ take count self.old }
+    {
+        self.items.truncate(count);
     }
 }

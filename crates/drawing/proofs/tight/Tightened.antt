@@ -111,7 +111,7 @@ words_are : (d : Drawing) (n : ℕ) → length d.strands ≡ n → words d ≡ m
 words_are d n e = ap (map letters) (by_entries [] d.strands n e) ∙ map-map letters (λ i. get_or d.strands i []) (below n)
 
 -- where a drawing is loosened until it is tight, its words are the reduced ones
-tight_words : (d e : Drawing) → IsEmbedded d → Loosened d e → IsTight e → words e ≡ map (reduced d.polygon) (words d)
+pub tight_words : (d e : Drawing) → IsEmbedded d → Loosened d e → IsTight e → words e ≡ map (reduced d.polygon) (words d)
 tight_words d e ok r tight =
     let n = arc_count d.polygon in
     let len : length e.strands ≡ n = r.embedded.strand_count ∙ ap arc_count r.polygon in
@@ -133,3 +133,10 @@ reduced_words_drawn d ok =
     let (e, r, tight) = tightened (length (all_exits d)) d ok (le_refl _) in
     let q = tight_loosened d e ok r tight in
     (subst IsEmbedded q r.embedded, subst IsTight q tight)
+
+-- an embedded drawing with no turn is tight
+pub tight_without_turns : (d : Drawing) → IsEmbedded d → ((i : ℕ) (us : List Exit) (u v : Exit) (vs : List Exit) → IsTurn d i us u v vs → ⊥) → IsTight d
+tight_without_turns d ok no_turn = elim (free_or_some_step d (arc_count d.polygon)) [
+  | inl h ↦ tight_from_free d ok h
+  | inr r ↦ (let (i, li, w, s) = r in let (j, us, u, v, vs, turn) = turn_found d ok i w li s in absurd (no_turn j us u v vs turn))
+]

@@ -7,5 +7,5 @@ use Rattle.drawing.proofs.counts.offsets.Given as goal
 abbrev pub invariant-loop-count : goal.invariant-loop-count
 invariant-loop-count l = record {
   here : l.offset ≡ sum_by (λ count. count + 2) (take l.count-index l.counts);
-  so_far : l.offsets ≡ map (λ k. sum_by (λ count. count + 2) (take k l.counts)) (below (suc l.count-index));
+  so_far : l.offsets.items ≡ map (λ k. sum_by (λ count. count + 2) (take k l.counts)) (below (suc l.count-index));
 }

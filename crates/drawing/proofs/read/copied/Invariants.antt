@@ -3,4 +3,4 @@ use Rattle.drawing.proofs.read.copied.Given as goal
 
 -- the strands so far
 abbrev pub invariant-loop-strand : goal.invariant-loop-strand
-invariant-loop-strand l = l.copy ≡ map (λ strand. strand.items) (take l.strand-index l.strands)
+invariant-loop-strand l = l.copy.items ≡ map (λ strand. strand.items) (take l.strand-index l.strands)

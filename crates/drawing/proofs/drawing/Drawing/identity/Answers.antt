@@ -7,7 +7,7 @@ use Rattle.drawing.proofs.drawing.Drawing.identity.Goals as goal
 pub loop-arc-preserved : goal.loop-arc-preserved
 loop-arc-preserved c =
     let s : c.pair.result ≡ second_side c.args.polygon.now c.loop-arc.arc = cc in
-    strands_more c.args.polygon.now _ _ _ _ _ c.loop-arc.invariant c.in_ok-crossing.ensures s c.in_ok-push.ensures.ok
+    strands_more c.args.polygon.now _ _ _ _ _ c.loop-arc.invariant c.in_ok-crossing.ensures s c.in_ok-push.ensures.items
 
 pub of-requires-clause-strands : goal.of-requires-clause-strands
 of-requires-clause-strands c =

@@ -6,4 +6,4 @@ use Rattle.drawing.proofs.drawing.Drawing.identity.Given as goal
 
 -- the strands of the arcs so far
 abbrev pub invariant-loop-arc : goal.invariant-loop-arc
-invariant-loop-arc l = l.strands ≡ map (λ i. exit (second_side l.polygon i) 0 ∷ []) (below l.arc)
+invariant-loop-arc l = l.strands.items ≡ map (λ i. exit (second_side l.polygon i) 0 ∷ []) (below l.arc)

@@ -5,24 +5,24 @@ use Rattle.drawing.proofs.layout.Layout.spot.Goals as goal
 pub bounds-as_slice-number : goal.bounds-as_slice-number
 bounds-as_slice-number c =
     let k = offset_count _ _ c.self.view_is _ c.self.invariant in
-    rw c.as_slice.ensures (omega (arith, k, c.requires.side, c.number.ensures.value))
+    rw c.as_slice.ensures.value (omega (arith, k, c.requires.side, c.number.ensures.value))
 
 pub overflow_add-result : goal.overflow_add-result
 overflow_add-result c =
     let k = spot_read _ _ c.self.view_is _ c.self.invariant _ _ c.number.ensures.value c.requires.side in
-    rw c.as_slice.ensures (omega (arith, k, c.requires.place))
+    rw c.as_slice.ensures.value (omega (arith, k, c.requires.place))
 
 pub returns-clause-value : goal.returns-clause-value
 returns-clause-value c =
     let k = spot_read _ _ c.self.view_is _ c.self.invariant _ _ c.number.ensures.value c.requires.side in
-    rw c.as_slice.ensures (ap (λ x. x + c.args.exit.place) k.0)
+    rw c.as_slice.ensures.value (ap (λ x. x + c.args.exit.place) k.0)
 
 pub returns-clause-inside : goal.returns-clause-inside
 returns-clause-inside c =
     let k = spot_read _ _ c.self.view_is _ c.self.invariant _ _ c.number.ensures.value c.requires.side in
-    rw c.as_slice.ensures (spot_inside c.args.self.now c.args.exit.side _ _ c.requires.side c.requires.place k.0)
+    rw c.as_slice.ensures.value (spot_inside c.args.self.now c.args.exit.side _ _ c.requires.side c.requires.place k.0)
 
 pub returns-clause-few : goal.returns-clause-few
 returns-clause-few c =
     let k = spot_read _ _ c.self.view_is _ c.self.invariant _ _ c.number.ensures.value c.requires.side in
-    rw c.as_slice.ensures (omega (arith, k, c.requires.place))
+    rw c.as_slice.ensures.value (omega (arith, k, c.requires.place))

@@ -1,6 +1,6 @@
 use Rattle.drawing.proofs.StrandTables.{IsSetBelow}
-use Rattle.drawing.proofs.strands.strand_table.Given as goal
+use Rattle.drawing.proofs.strands.set_strands.Given as goal
 
 -- the strands so far are set
 abbrev pub invariant-loop-strand : goal.invariant-loop-strand
-invariant-loop-strand l = IsSetBelow l.layout l.strand l.table.items
+invariant-loop-strand l = IsSetBelow l.layout l.strand l.table

@@ -1,0 +1,6 @@
+use Rattle.drawing.specs.Thinned.{AreNumbered, is_gone}
+use Rattle.drawing.proofs.thinning.number_points.Given as goal
+
+-- the sides so far are numbered
+abbrev pub invariant-loop-side : goal.invariant-loop-side
+invariant-loop-side l = AreNumbered l.layout (is_gone l.gone) l.side l.places

@@ -1,0 +1,7 @@
+use Rattle.std.proofs.Common.{◌≡◌, ◌++◌, drop, map, take}
+use Rattle.drawing.specs.Thinned.{thinned_by}
+use Rattle.drawing.proofs.thinning.thin_strands.Given as goal
+
+-- the strands so far, and the others as they were
+abbrev pub invariant-loop-strand : goal.invariant-loop-strand
+invariant-loop-strand l = l.strands ≡ map (thinned_by l.offsets l.gone l.places) (take l.strand l.fn.strands) ++ drop l.strand l.fn.strands
