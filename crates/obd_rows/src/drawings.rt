@@ -13,7 +13,7 @@ use std::alloc::Global;
 use std::test::Fail;
 
 // The polygon of a page of one polygon.
-fn polygon_of(alloc: Global, text: &str) -> Result<Polygon, Fail> {
+pub(crate) fn polygon_of(alloc: Global, text: &str) -> Result<Polygon, Fail> {
     let page = page_of(alloc, text)?;
     if page.polygon_count() != 1 {
         return Err(Fail::new("several polygons"));
@@ -84,7 +84,7 @@ fn are_on_sides(polygon: &Polygon, exits: &[Exit]) -> bool
 }
 
 // The exits of a drawing, strand by strand.
-fn exits_text(alloc: Global, drawing: &Drawing) -> Result<String, Fail> {
+pub(crate) fn exits_text(alloc: Global, drawing: &Drawing) -> Result<String, Fail> {
     let mut text = String::new(alloc);
     let _ = drawing.points();
     for number in 0..drawing.polygon().sides() / 2 {
@@ -102,7 +102,7 @@ fn exits_text(alloc: Global, drawing: &Drawing) -> Result<String, Fail> {
 }
 
 // The drawing that is read, or the refusal.
-fn read(
+pub(crate) fn read(
     alloc: Global,
     polygon: &Polygon,
     text: &str,

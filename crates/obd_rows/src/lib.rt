@@ -18,4 +18,6 @@ mod pages;
 #[cfg(test)]
 mod runs;
 #[cfg(test)]
+mod tightening;
+#[cfg(test)]
 mod words;
