@@ -32,6 +32,8 @@ made_belongs book c no_slide no_twist made =
     let ok = made.valid in
     let (before, is) = contact_comes_last (identity p) in
     record {
+      no_slide = no_slide;
+      no_twist = no_twist;
       version = made.version;
       polygons = made.polygons;
       curves = made.curves_are;

@@ -20,7 +20,7 @@ use Rattle.obd_cli.specs.declared.certificate.Verdict.TheVariants.{Chain, Functi
 use Rattle.obd_cli.specs.declared.complex.Complex.{Complex}
 use Rattle.obd_cli.specs.declared.complex.Outcome.{Outcome}
 
--- the first drawing of a book without twists: the identity drawing of its polygon
+-- the first drawing of a book without slides and twists: the identity drawing of its polygon
 abbrev pub first_drawing : List (List Label) → Drawing
 first_drawing page = identity (page_polygon page)
 
@@ -77,8 +77,11 @@ pub record IsComplexOf (d : Drawing) (complex : Complex) : Type 0 where
   pub concludes : IsOutcomeOf (columns d) complex.outcome
   pub rank : complex.outcome.rank ≤ complex.generators
 
--- every line is that of the book, which has no slide and no twist
+-- the book has no slide and no twist, and every line is that of the book
 pub record BelongsTo (book : Book) (c : Certificate) : Type 0 where
+  -- neither slide nor twist, so that the first drawing is the identity drawing
+  pub no_slide : book.slides ≡ []
+  pub no_twist : book.twists ≡ []
   pub version : c.version ≡ 1
   -- the book's polygons, curves, slides and twists
   pub polygons : c.polygons ≡ book.page

@@ -100,6 +100,56 @@ fn homology(generators: u32, rank: u32) -> i32
     generators as i32 - 2 * rank as i32
 }
 
+// A page's labels and seams by name, and the basis of its joined polygon.
+#[derive(Drop)]
+struct Surface {
+    polygons: Items<Items<Name>>,
+    seams: Items<Name>,
+    basis: Items<ArcNo>,
+}
+
+// The surface of a page with these seams and this joined polygon.
+fn surface_of(
+    alloc: Global,
+    page: &Page,
+    seams: &[LabelNo],
+    polygon: &Polygon,
+) -> Result<Surface, NoMemory>
+    requires { All (λ label. label < length (labels_of page.now)) seams.now }
+    ensures polygons { IfOk result (λ surface. surface.polygons ≡ page.now) }
+    ensures seams { IfOk result (λ surface. surface.seams ≡ names_of page.now seams.now) }
+    ensures basis { IfOk result (λ surface. surface.basis ≡ map (arc polygon.now) (below (sides polygon.now))) }
+{
+    Ok(Surface {
+        polygons: page_names(alloc, page)?,
+        seams: label_names(alloc, page, seams)?,
+        basis: basis(alloc, polygon)?,
+    })
+}
+
+// The exits of the strands in the first drawing and in the last one, and the contact points.
+#[derive(Drop)]
+struct Drawn {
+    strands: Items<Items<Exit>>,
+    finals: Items<Items<Exit>>,
+    points: Items<u32>,
+}
+
+// The exits of the first strands and the contact points of their arcs, so many of them, in a diagram that needs no
+// finger: the last drawing is the first.
+fn drawn_in(alloc: Global, diagram: &Diagram, arcs: u32) -> Result<Drawn, NoMemory>
+    requires { arcs ≤ arc_count diagram.now.polygon }
+    ensures strands { IfOk result (λ drawn. drawn.strands ≡ map (strand_exits diagram.now) (below arcs)) }
+    ensures finals { IfOk result (λ drawn. drawn.finals ≡ map (strand_exits diagram.now) (below arcs)) }
+    ensures points { IfOk result (λ drawn. drawn.points ≡ map (crossings_of diagram.now) (below arcs)) }
+{
+    Ok(Drawn {
+        strands: strands(alloc, diagram, arcs)?,
+        finals: strands(alloc, diagram, arcs)?,
+        points: contact_points(alloc, diagram, arcs)?,
+    })
+}
+
 // The certificate of a page with these curves, seams and joined polygon, and no twist: the first drawing is the
 // identity drawing, which is nice.
 fn identity_certificate(
@@ -114,6 +164,8 @@ fn identity_certificate(
 {
     let arcs = polygon.sides() / 2;
     let diagram = first(alloc, polygon)?;
+    let surface = surface_of(alloc, page, seams, polygon)?;
+    let drawn = drawn_in(alloc, &diagram, arcs)?;
     let Complex {
         generators,
         outcome,
@@ -121,18 +173,18 @@ fn identity_certificate(
     let homology = homology(generators, outcome.rank);
     Ok(Certificate {
         version: 1,
-        polygons: page_names(alloc, page)?,
+        polygons: surface.polygons,
         curves,
         slides: Items::new(alloc),
         twists: Items::new(alloc),
-        seams: label_names(alloc, page, seams)?,
-        basis: basis(alloc, polygon)?,
-        strands: strands(alloc, &diagram, arcs)?,
+        seams: surface.seams,
+        basis: surface.basis,
+        strands: drawn.strands,
         fingers: Items::new(alloc),
-        finals: strands(alloc, &diagram, arcs)?,
+        finals: drawn.finals,
         generators,
         contact: GenNo::new(generators - 1),
-        points: contact_points(alloc, &diagram, arcs)?,
+        points: drawn.points,
         homology,
         pivots: outcome.pivots,
         rank: outcome.rank,
