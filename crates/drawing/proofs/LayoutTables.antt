@@ -1,9 +1,9 @@
 -- Where sides begin in a written drawing.
-use Rattle.std.proofs.Common.{◌≡◌, ℕ, suc, ◌+◌, ◌*◌, ◌<◌, ◌≤◌, ◌^◌, true, eqb, ltb, List, [], ◌∷◌, map, length, get_or, take, refl, sym, ◌∙◌, ap, subst, arith, zero-add, inl, inr}
+use Rattle.std.proofs.Common.{◌≡◌, ℕ, suc, ◌+◌, ◌*◌, ◌<◌, ◌≤◌, ◌^◌, true, eqb, ltb, List, [], ◌∷◌, map, length, get_or, take, sym, ◌∙◌, ap, subst, arith, zero-add}
 use Rattle.std.specs.List.{list_all, sum_by}
 use Rattle.std.proofs.lemmas.List.Sums.{sum_by-cons}
 use Rattle.std.proofs.lemmas.List.FromFn.{get_or-map-range_with_len, length-map-range_with_len, take-map-range_with_len}
-use Rattle.obd_base.specs.Lists.{below, Mem}
+use Rattle.obd_base.specs.Lists.{below}
 use Rattle.obd_base.specs.declared.points.Exit.{Exit}
 use Rattle.obd_base.proofs.lists.Below.{bit, mem_below}
 use Rattle.obd_base.proofs.lists.Sums.{bit-le, sum_same, sum_add, sum_map, sum_ones, sum_swap, count_below}
@@ -12,6 +12,7 @@ use Rattle.page_surface.specs.Polygon.{IsPolygon, Polygon, arc_count, partner, s
 use Rattle.drawing.specs.Layout.{IsLaidOut, IsWritten, count_on, drawn, offsets_of}
 use Rattle.drawing.specs.Pieces.{span_count}
 use Rattle.drawing.proofs.Spots.{offset_rises, offset_suc}
+use Rattle.drawing.proofs.tight.Maps.{map_same}
 
 -- a sum of numbers that are at most 2
 sum_within : {X : Type 0} (f : X → ℕ) (xs : List X) → ((x : X) → f x ≤ 2) → sum_by f xs ≤ 2 * length xs
@@ -67,12 +68,8 @@ pub offsets_from_counts : (d : Drawing) (counts offsets : List ℕ) → counts �
 offsets_from_counts d counts offsets is table =
     let size : length counts ≡ sides d.polygon = ap length is ∙ length-map-range_with_len (points_on d) 0 (sides d.polygon) in
     table ∙ (ap (λ (n : ℕ). map (λ k. sum_by (λ count. count + 2) (take k counts)) (below (suc n))) size
-    ∙ map_same (below (suc (sides d.polygon))) (λ k m. offset_of_counts d counts k is (let l = mem_below (suc (sides d.polygon)) k m in omega arith)))
-  where
-    map_same : (ks : List ℕ) → ((k : ℕ) → Mem k ks → sum_by (λ count. count + 2) (take k counts) ≡ offset d k)
-        → map (λ k. sum_by (λ count. count + 2) (take k counts)) ks ≡ map (offset d) ks
-    map_same [] h = refl
-    map_same (k ∷ ks) h = rw (h k (inl refl), map_same ks (λ x m. h x (inr m))) refl
+    ∙ map_same (λ k. sum_by (λ count. count + 2) (take k counts)) (offset d) (below (suc (sides d.polygon)))
+    (λ k m. offset_of_counts d counts k is (let l = mem_below (suc (sides d.polygon)) k m in omega arith)))
 
 module _ (made d : Drawing) (seen : made ≡ d) (offsets : List ℕ) (laid : IsLaidOut made offsets) where
   -- it is laid out as the drawing that contracts see

@@ -6,11 +6,12 @@ mod Ends
 pub mod Examples
 mod Filled
 pub mod Generators
+mod Hits
 mod IdentityEmbedded
 mod IdentityTables
 mod KeptTables
-pub mod Laws
 mod LaidThin
+pub mod Laws
 mod LayoutTables
 pub mod Lists
 mod Mates
@@ -21,7 +22,6 @@ mod Placed
 mod PlaceTables
 mod RoundPiece
 pub mod SamePiece
-mod Hits
 mod SpanTests
 mod Spots
 mod StackSweep
@@ -29,11 +29,11 @@ mod StrandTables
 mod SweepTables
 mod SweepTest
 pub mod Tests
-pub mod TreeExamples
-pub mod TreeLaws
-pub mod Thinned
 mod ThinKept
+pub mod Thinned
 mod ThinTables
 mod tight
-mod TurnTables
 pub mod TightLaws
+pub mod TreeExamples
+pub mod TreeLaws
+mod TurnTables

@@ -1,4 +1,4 @@
--- Members of joined lists, and the first number that passes a test.
+-- Members of joined lists, the first number that passes a test, and lists written back whole.
 use Rattle.std.proofs.Common.{◌≡◌, ℕ, zero, suc, ◌<◌, Bool, true, false, List, [], ◌∷◌, ◌++◌, drop, map, length, get_or, take, eqb, refl, sym, ◌∙◌, ap, subst, arith, zero-add, inl, inr}
 use Rattle.std.specs.List.{flat_map, position_or_len, sum_by}
 use Rattle.std.proofs.lemmas.List.{append-nil, drop_all, take_all}

@@ -10,10 +10,10 @@ const ANNULUS_TEXT: &str =
     "contact certificate 1\npolygons 1\npolygon A A\ncurves 0\nslides 0\ntwists 0\nseams 0\nbasis 0 0\nstrand 0 1.0\nfingers 0\nfinal 0 1.0\ngenerators 2\ncontact 1 1\npivots 0\nrank 0\nhomology 2\nnonzero 1\nend\n";
 
 const TORUS: &str =
-    "{\"open_book\":1,\"polygons\":[[\"A\",\"B\",\"A\",\"B\"]],\"curves\":[],\"twists\":[]}";
+    "{\"open_book\":1,\"polygons\":[[\"A\",\"B\",\"A\",\"B\"]],\"curves\":[[\"a\",[[\"A\",0,0]]],[\"b\",[[\"B\",0,0]]]],\"twists\":[]}";
 
 const TORUS_TEXT: &str =
-    "contact certificate 1\npolygons 1\npolygon A B A B\ncurves 0\nslides 0\ntwists 0\nseams 0\nbasis 0 1 0 1\nstrand 0 2.0\nstrand 1 3.0\nfingers 0\nfinal 0 2.0\nfinal 1 3.0\ngenerators 4\ncontact 3 1 1\npivots 0\nrank 0\nhomology 4\nnonzero 3\nend\n";
+    "contact certificate 1\npolygons 1\npolygon A B A B\ncurves 2\ncurve a A:0:0\ncurve b B:0:0\nslides 0\ntwists 0\nseams 0\nbasis 0 1 0 1\nstrand 0 2.0\nstrand 1 3.0\nfingers 0\nfinal 0 2.0\nfinal 1 3.0\ngenerators 4\ncontact 3 1 1\npivots 0\nrank 0\nhomology 4\nnonzero 3\nend\n";
 
 // A shuffled polygon, with a name of 16 characters.
 const FIVE_ARCS: &str =
