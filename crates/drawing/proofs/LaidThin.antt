@@ -9,7 +9,8 @@ use Rattle.page_surface.specs.Drawing.{Drawing, IsEmbedded, all_exits, exit, off
 use Rattle.page_surface.specs.Polygon.{Polygon, sides}
 use Rattle.drawing.specs.Layout.{IsLaidOut, IsWritten, drawn, offsets_of}
 use Rattle.drawing.specs.Pieces.{span_count}
-use Rattle.drawing.specs.Thinned.{AreNumbered, IsAlike, IsKnown, is_gone, moved_offsets, number_of, places_kept, points_left, thinned, thinned_by, thinned_exits}
+use Rattle.drawing.specs.ThinTables.{AreNumbered, IsKnown, is_gone, moved_offsets, number_of, points_left, thinned_by}
+use Rattle.drawing.specs.Thinned.{IsAlike, places_kept, thinned, thinned_exits}
 use Rattle.drawing.proofs.Ends.{place_in, side_in}
 use Rattle.drawing.proofs.LayoutTables.{offset_count, offset_read, offset_within, seen_laid}
 use Rattle.drawing.proofs.Lists.{mem_flat, written_back}

@@ -4,7 +4,8 @@ use Rattle.std.proofs.lemmas.Bool.{cases_eq}
 use Rattle.std.proofs.lemmas.List.{get_or-set_other, get_or-set_same}
 use Rattle.obd_base.proofs.lists.Below.{bit, count_suc}
 use Rattle.page_surface.specs.Drawing.{Drawing, exit, offset, points_on, spot}
-use Rattle.drawing.specs.Thinned.{AreNumbered, is_gone, places_kept}
+use Rattle.drawing.specs.ThinTables.{AreNumbered, is_gone}
+use Rattle.drawing.specs.Thinned.{places_kept}
 use Rattle.drawing.proofs.Spots.{offset_rises}
 
 -- what is set on a side leaves the numbers of the sides before it

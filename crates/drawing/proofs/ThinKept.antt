@@ -8,7 +8,8 @@ use Rattle.page_surface.specs.Drawing.{Drawing, IsEmbedded, IsPlaced, exit, offs
 use Rattle.page_surface.specs.Polygon.{sides}
 use Rattle.drawing.specs.Pieces.{span_count}
 use Rattle.drawing.specs.Strands.{IsStrandTable}
-use Rattle.drawing.specs.Thinned.{TurnsGone, is_gone, places_kept, thinned}
+use Rattle.drawing.specs.ThinTables.{is_gone}
+use Rattle.drawing.specs.Thinned.{TurnsGone, places_kept, thinned}
 use Rattle.drawing.proofs.Ends.{placed}
 use Rattle.drawing.proofs.Lists.{written_back}
 use Rattle.drawing.proofs.Spots.{offset_suc}

@@ -10,7 +10,7 @@ use Rattle.obd_base.proofs.lists.Below.{mem_below}
 use Rattle.obd_base.proofs.lists.Sums.{by_entries, sum_below_push}
 use Rattle.obd_base.specs.declared.points.Exit.{Exit}
 use Rattle.page_surface.specs.Drawing.{exit}
-use Rattle.drawing.specs.Thinned.{IsKnown, is_gone, moved_offsets, number_of, points_left, thinned_by}
+use Rattle.drawing.specs.ThinTables.{IsKnown, is_gone, moved_offsets, number_of, points_left, thinned_by}
 use Rattle.drawing.proofs.Lists.{mem_at}
 use Rattle.drawing.proofs.tight.Maps.{map_same}
 

@@ -128,8 +128,10 @@ module _ (d : Drawing) (ok : IsEmbedded d) (gone : ℕ → Bool) (alike : IsAlik
           splits = get_or-map (thinned_exits d gone) d.strands i [] [] (omega (arith, turn.arc, ok.strand_count))
               ∙ (ap thin turn.splits ∙ (thinned_append d gone us (u ∷ v ∷ vs)
               ∙ ap (λ w. thin us ++ w) (thinned_kept d gone u (v ∷ vs) out_stays ∙ ap (λ w. out ∷ w) (thinned_kept d gone v vs back_stays))));
-          returns = turn.returns;
-          neighbours = elim (kept_exits d ok gone alike i us u v vs turn out_stays back_stays) [ inl w ↦ inl (omega (arith, w, meet)) | inr w ↦ inr (omega (arith, w, meet)) ];
+          turns = record {
+            returns = turn.turns.returns;
+            neighbours = elim (kept_exits d ok gone alike i us u v vs turn out_stays back_stays) [ inl w ↦ inl (omega (arith, w, meet)) | inr w ↦ inr (omega (arith, w, meet)) ];
+          };
         }
 
     -- its lesser place on the side that it leaves through

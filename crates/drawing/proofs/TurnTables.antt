@@ -6,7 +6,8 @@ use Rattle.obd_base.specs.declared.points.Exit.{Exit}
 use Rattle.page_surface.specs.Drawing.{Drawing, IsEmbedded, entry, spot, strand_exits}
 use Rattle.page_surface.specs.Polygon.{arc_count}
 use Rattle.drawing.specs.Pieces.{span_count}
-use Rattle.drawing.specs.Thinned.{IsPointGone, TurnsGone, is_gone, turn_gone}
+use Rattle.drawing.specs.ThinTables.{IsPointGone, is_gone}
+use Rattle.drawing.specs.Thinned.{TurnsGone, turn_gone}
 use Rattle.drawing.specs.Tight.{IsTight}
 use Rattle.drawing.specs.Turns.{NoTurnBefore, TurnsBack}
 use Rattle.drawing.proofs.Thinned.{turns_gone_more, turns_gone_same}
@@ -33,7 +34,7 @@ no_turn_tight d ok none = tight_without_turns d ok (λ i us u v vs turn.
     let there : suc (length us) < length (strand_exits d i) = subst (λ (xs : List Exit). suc (length us) < length xs) (sym turn.splits) (both_there us u v vs) in
     let out : u ≡ get_or (strand_exits d i) (length us) u = subst (λ (xs : List Exit). u ≡ get_or xs (length us) u) (sym turn.splits) (sym (at_split us u (v ∷ vs))) in
     let back : v ≡ get_or (strand_exits d i) (suc (length us)) v = subst (λ (xs : List Exit). v ≡ get_or xs (suc (length us)) v) (sym turn.splits) (sym (next_split us u v vs)) in
-    none i turn.arc (length us) u v there out back (record { returns = turn.returns; neighbours = turn.neighbours }))
+    none i turn.arc (length us) u v there out back turn.turns)
 
 -- where two exits that follow one another don't turn back, there is no turn before the next one
 pub no_turn_more : (d : Drawing) (exits : List Exit) (at : ℕ) (out back : Exit) → 1 ≤ at → at < length exits → out ≡ get_or exits (at - 1) out → back ≡ get_or exits at back
@@ -98,5 +99,5 @@ pair_taken d ok i exits at out back old mid new turns li es one l io ib turn x y
     let splits = split_at exits (at - 1) out back (omega (arith, l, e)) io ib' in
     turns_gone_same d ok (turn_gone d out back (is_gone old)) (is_gone new) (turns + 1) (λ x k. gone_both d out back old mid new first second x)
     (turns_gone_more d ok (is_gone old) turns taken i (take (at - 1) exits) out back (drop (suc (suc (at - 1))) exits)
-    (record { arc = li; splits = sym es ∙ splits; returns = turn.returns; neighbours = turn.neighbours })
+    (record { arc = li; splits = sym es ∙ splits; turns = turn })
     (subst (λ (n : ℕ). is_gone old n ≡ false) ix out_stays) (subst (λ (n : ℕ). is_gone old n ≡ false) iy back_stays))

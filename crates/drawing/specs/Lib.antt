@@ -11,6 +11,7 @@ pub mod Round
 pub mod Strands
 pub mod Sweep
 pub mod Thinned
+pub mod ThinTables
 pub mod Tight
 pub mod Trees
 pub mod Turns

@@ -6,17 +6,17 @@ use Rattle.page_surface.specs.Polygon.{partner, arc_count}
 use Rattle.page_surface.specs.Drawing.{Drawing, IsEmbedded, exit, points_on, strand_exits}
 use Rattle.page_surface.specs.Words.{Steps}
 
--- a strand leaves through a side and comes back through it with its next letter, and the two points are neighbours
-pub record IsTurn (d : Drawing) (i : ℕ) (before : List Exit) (out back : Exit) (after : List Exit) : Type 0 where
-  pub arc : i < arc_count d.polygon
-  pub splits : strand_exits d i ≡ before ++ (out ∷ back ∷ after)
-  pub returns : back.side ≡ partner d.polygon out.side
-  pub neighbours : (out.place + back.place ≡ points_on d out.side) ⊎ (out.place + back.place + 2 ≡ points_on d out.side)
-
--- the same of two exits of which the one follows the other
+-- of two exits of a strand that follow one another: it leaves through a side and comes back through it, and the two points
+-- are neighbours
 pub record TurnsBack (d : Drawing) (out back : Exit) : Type 0 where
   pub returns : back.side ≡ partner d.polygon out.side
   pub neighbours : (out.place + back.place ≡ points_on d out.side) ⊎ (out.place + back.place + 2 ≡ points_on d out.side)
+
+-- a turn of a strand: two exits that follow one another and turn back
+pub record IsTurn (d : Drawing) (i : ℕ) (before : List Exit) (out back : Exit) (after : List Exit) : Type 0 where
+  pub arc : i < arc_count d.polygon
+  pub splits : strand_exits d i ≡ before ++ (out ∷ back ∷ after)
+  pub turns : TurnsBack d out back
 
 -- no two exits of a strand that follow one another turn back, before the exit with a number
 abbrev pub NoTurnBefore : Drawing → List Exit → ℕ → Type 0

@@ -5,7 +5,8 @@ ghost use Rattle.page_surface.specs.Drawing.{IsEmbedded, all_exits, end_of, entr
 ghost use Rattle.page_surface.specs.Polygon.{arc_count, sides};
 ghost use Rattle.drawing.specs.Layout.{IsWritten, drawn};
 ghost use Rattle.drawing.specs.Pieces.{span_count};
-ghost use Rattle.drawing.specs.Thinned.{IsAlike, is_gone, thinned};
+ghost use Rattle.drawing.specs.ThinTables.{is_gone};
+ghost use Rattle.drawing.specs.Thinned.{IsAlike, thinned};
 
 use crate::counts::{joined, offsets, side_counts};
 use crate::thinning::{move_sides, number_points, thin_strands};

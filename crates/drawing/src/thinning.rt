@@ -5,7 +5,7 @@ ghost use Rattle.obd_base.specs.Lists.{Mem, below};
 ghost use Rattle.obd_base.specs.declared.points.Exit.{Exit as Shown};
 ghost use Rattle.page_surface.specs.Polygon.{sides};
 ghost use Rattle.drawing.specs.Pieces.{span_count};
-ghost use Rattle.drawing.specs.Thinned.{AreNumbered, IsKnown, is_gone, moved_offsets, points_left, thinned_by};
+ghost use Rattle.drawing.specs.ThinTables.{AreNumbered, IsKnown, is_gone, moved_offsets, points_left, thinned_by};
 
 use crate::layout::Layout;
 use obd_base::{Exit, Items, SideNo};

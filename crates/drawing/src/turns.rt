@@ -3,7 +3,8 @@ ghost use Rattle.std.specs.Prelude.{◌≡◌, ℕ, ◌<◌, ◌≤◌, ◌^◌,
 ghost use Rattle.page_surface.specs.Drawing.{IsEmbedded, IsPlaced, all_exits, points_on, strand_exits};
 ghost use Rattle.page_surface.specs.Polygon.{arc_count, sides};
 ghost use Rattle.drawing.specs.Pieces.{span_count};
-ghost use Rattle.drawing.specs.Thinned.{IsPointGone, TurnsGone, is_gone};
+ghost use Rattle.drawing.specs.ThinTables.{IsPointGone, is_gone};
+ghost use Rattle.drawing.specs.Thinned.{TurnsGone};
 ghost use Rattle.drawing.specs.Tight.{IsTight};
 ghost use Rattle.drawing.specs.Turns.{NoTurnBefore, TurnsBack};
 

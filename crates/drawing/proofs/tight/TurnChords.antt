@@ -141,8 +141,8 @@ module _ (d : Drawing) (ok : IsEmbedded d) (i : ℕ) (us : List Exit) (u v : Exi
   -- the two points of the turn on the side that it leaves through have numbers that follow one another
   pub neighbours : (spot d u ≡ suc (spot d (entry d v))) ⊎ (spot d (entry d v) ≡ suc (spot d u))
   neighbours =
-      let m : points_on d v.side ≡ points_on d u.side = ap (points_on d) turn.returns ∙ far_count d ok i us u v vs turn in
-      let b : partner d.polygon v.side ≡ u.side = ap (partner d.polygon) turn.returns ∙ ok.polygon.pairs.twice u.side in
+      let m : points_on d v.side ≡ points_on d u.side = ap (points_on d) turn.turns.returns ∙ far_count d ok i us u v vs turn in
+      let b : partner d.polygon v.side ≡ u.side = ap (partner d.polygon) turn.turns.returns ∙ ok.polygon.pairs.twice u.side in
       let o : offset d (partner d.polygon v.side) ≡ offset d u.side = ap (offset d) b in
       let g = places_meet d ok i us u v vs turn in
       elim (places d ok i us u v vs turn) [

@@ -140,18 +140,18 @@ module _ (d : Drawing) (ok : IsEmbedded d) (i : ℕ) (us : List Exit) (u v : Exi
 
   -- and of the way back
   pub v_place : v.place < points_on d k
-  v_place = let w : points_on d v.side ≡ points_on d k = ap (points_on d) turn.returns ∙ far_count in omega (arith, w, place_in d ok v v_in)
+  v_place = let w : points_on d v.side ≡ points_on d k = ap (points_on d) turn.turns.returns ∙ far_count in omega (arith, w, place_in d ok v v_in)
 
   -- the two places on each side
   pub places : ((u.place ≡ suc s) × (v.place ≡ suc t)) ⊎ ((u.place ≡ s) × (v.place ≡ t))
-  places = elim turn.neighbours [
+  places = elim turn.turns.neighbours [
     | inl q ↦ inl (omega (arith, u_place, v_place, q), omega (arith, u_place, v_place, q))
     | inr q ↦ inr (omega (arith, u_place, v_place, q), omega (arith, u_place, v_place, q))
   ]
 
   -- the places of the turn on the two sides are the same points
   pub places_meet : s + t + 2 ≡ points_on d k
-  places_meet = elim turn.neighbours [ inl q ↦ omega (arith, u_place, v_place, q) | inr q ↦ omega (arith, u_place, v_place, q) ]
+  places_meet = elim turn.turns.neighbours [ inl q ↦ omega (arith, u_place, v_place, q) | inr q ↦ omega (arith, u_place, v_place, q) ]
 
   -- two points fewer on the two sides of the turn
   pub points_new : (l : ℕ) → points_on d l ≡ points_on new l + (2 * bit (eqb k l) + 2 * bit (eqb e l))
@@ -161,7 +161,7 @@ module _ (d : Drawing) (ok : IsEmbedded d) (i : ℕ) (us : List Exit) (u v : Exi
       let b = sum_add (λ x. bit (eqb x.side l)) (λ x. bit (eqb (partner d.polygon x.side) l)) (all_exits new) in
       let c = sum_both f f (λ j x lj m. refl) in
       let fu : f u ≡ bit (eqb k l) + bit (eqb e l) = refl in
-      let fv : f v ≡ bit (eqb e l) + bit (eqb k l) = ap (λ x. bit (eqb x l) + bit (eqb (partner d.polygon x) l)) turn.returns ∙ ap (λ x. bit (eqb e l) + bit (eqb x l)) (ok.polygon.pairs.twice k) in
+      let fv : f v ≡ bit (eqb e l) + bit (eqb k l) = ap (λ x. bit (eqb x l) + bit (eqb (partner d.polygon x) l)) turn.turns.returns ∙ ap (λ x. bit (eqb e l) + bit (eqb x l)) (ok.polygon.pairs.twice k) in
       omega (arith, a, b, c, fu, fv)
 
   -- what an exit that is kept and the two of the turn add to a sum
@@ -188,7 +188,7 @@ module _ (d : Drawing) (ok : IsEmbedded d) (i : ℕ) (us : List Exit) (u v : Exi
   pub kept_near : (j : ℕ) (x : Exit) → j < arc_count d.polygon → Mem x (row j) → x.side ≡ k → (x.place ≢ s) × (x.place ≢ suc s)
   kept_near j x lj m es =
       let a = kept_apart j x k u.place lj m k_in u_place (omega (arith, out_stands u)) es in
-      let vp : partner d.polygon v.side ≡ k = ap (partner d.polygon) turn.returns ∙ ok.polygon.pairs.twice k in
+      let vp : partner d.polygon v.side ≡ k = ap (partner d.polygon) turn.turns.returns ∙ ok.polygon.pairs.twice k in
       let b = kept_apart j x k (points_on d k - 1 - v.place) lj m k_in (omega (arith, v_place)) (omega (arith, in_stands v k (points_on d k - 1 - v.place) vp (omega (arith, v_place)))) es in
       let g = places_meet in
       elim places [
@@ -199,7 +199,7 @@ module _ (d : Drawing) (ok : IsEmbedded d) (i : ℕ) (us : List Exit) (u v : Exi
   -- on its partner
   pub kept_far : (j : ℕ) (x : Exit) → j < arc_count d.polygon → Mem x (row j) → x.side ≡ e → (x.place ≢ t) × (x.place ≢ suc t)
   kept_far j x lj m es =
-      let vs : 1 ≤ stands_at d v e v.place = subst (λ y. 1 ≤ stands_at d v y v.place) turn.returns (out_stands v) in
+      let vs : 1 ≤ stands_at d v e v.place = subst (λ y. 1 ≤ stands_at d v y v.place) turn.turns.returns (out_stands v) in
       let a = kept_apart j x e v.place lj m e_in (omega (arith, v_place, far_count)) (omega (arith, vs)) es in
       let b = kept_apart j x e (points_on d k - 1 - u.place) lj m e_in (omega (arith, u_place, far_count)) (omega (arith, in_stands u e (points_on d k - 1 - u.place) refl (omega (arith, u_place, far_count)))) es in
       let g = places_meet in

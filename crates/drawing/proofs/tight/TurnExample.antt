@@ -15,7 +15,7 @@ annulus_with_turn_embedded = refl
 
 -- its first two exits are a turn
 annulus_turn : IsTurn annulus_with_turn 0 [] (exit 1 2) (exit 0 1) (exit 1 0 ∷ [])
-annulus_turn = record { arc = omega arith; splits = refl; returns = refl; neighbours = inl refl }
+annulus_turn = record { arc = omega arith; splits = refl; turns = record { returns = refl; neighbours = inl refl } }
 
 -- without it the strand crosses its arc once
 annulus_without_turn : without_turn annulus_with_turn 0 [] (exit 1 2) (exit 0 1) (exit 1 0 ∷ []) ≡ identity annulus

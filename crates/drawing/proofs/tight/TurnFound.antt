@@ -134,11 +134,11 @@ module _ (d : Drawing) (ok : IsEmbedded d) where
             | inl w ↦
                 (let a = spot_apart d (partner d.polygon u.side) (points_on d u.side - 1 - u.place) k t (omega (arith, same)) (omega arith) (sym p ∙ w.0) in
                 let b = spot_apart d v.side v.place k (suc t) (omega (arith, pv)) (omega arith) (sym r ∙ w.1) in
-                record { arc = li; splits = s; returns = b.0 ∙ sym a.0; neighbours = inl (omega (arith, a.1, b.1, pu)) })
+                record { arc = li; splits = s; turns = record { returns = b.0 ∙ sym a.0; neighbours = inl (omega (arith, a.1, b.1, pu)) } })
             | inr w ↦
                 (let a = spot_apart d (partner d.polygon u.side) (points_on d u.side - 1 - u.place) k (suc t) (omega (arith, same)) (omega arith) (sym p ∙ w.1) in
                 let b = spot_apart d v.side v.place k t (omega (arith, pv)) (omega arith) (sym r ∙ w.0) in
-                record { arc = li; splits = s; returns = b.0 ∙ sym a.0; neighbours = inr (omega (arith, a.1, b.1, pu)) })
+                record { arc = li; splits = s; turns = record { returns = b.0 ∙ sym a.0; neighbours = inr (omega (arith, a.1, b.1, pu)) } })
           ]
 
   -- where a step is possible in some word, there is a turn with neighbouring points

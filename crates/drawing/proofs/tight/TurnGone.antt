@@ -44,9 +44,9 @@ module _ (d : Drawing) (ok : IsEmbedded d) (gone : ℕ → Bool) (alike : IsAlik
   numbers : Numbers (suc s) s (suc t) t ⊎ Numbers s (suc s) t (suc t)
   numbers =
       let g = places_meet d ok i us u v vs turn in
-      let m : points_on d v.side ≡ points_on d k = ap (points_on d) turn.returns ∙ far_count d ok i us u v vs turn in
-      let there : offset d v.side ≡ offset d e = ap (offset d) turn.returns in
-      let here : offset d (partner d.polygon v.side) ≡ offset d k = ap (offset d) (ap (partner d.polygon) turn.returns ∙ ok.polygon.pairs.twice k) in
+      let m : points_on d v.side ≡ points_on d k = ap (points_on d) turn.turns.returns ∙ far_count d ok i us u v vs turn in
+      let there : offset d v.side ≡ offset d e = ap (offset d) turn.turns.returns in
+      let here : offset d (partner d.polygon v.side) ≡ offset d k = ap (offset d) (ap (partner d.polygon) turn.turns.returns ∙ ok.polygon.pairs.twice k) in
       elim (places d ok i us u v vs turn) [
         | inl w ↦ inl (omega (arith, w), omega (arith, w, g, m, here), omega (arith, w, there), omega (arith, w, g))
         | inr w ↦ inr (omega (arith, w), omega (arith, w, g, m, here), omega (arith, w, there), omega (arith, w, g))
@@ -246,7 +246,7 @@ module _ (d : Drawing) (ok : IsEmbedded d) (gone : ℕ → Bool) (alike : IsAlik
     pub kept_exits : (((thinned_exit d gone u).place ≡ suc near_kept) × ((thinned_exit d gone v).place ≡ suc far_kept))
         ⊎ (((thinned_exit d gone u).place ≡ near_kept) × ((thinned_exit d gone v).place ≡ far_kept))
     kept_exits =
-        let side : places_kept d gone v.side v.place ≡ places_kept d gone e v.place = ap (λ l. places_kept d gone l v.place) turn.returns in
+        let side : places_kept d gone v.side v.place ≡ places_kept d gone e v.place = ap (λ l. places_kept d gone l v.place) turn.turns.returns in
         elim (places d ok i us u v vs turn) [
           | inl w ↦ inl (ap (places_kept d gone k) w.0 ∙ near_next, side ∙ (ap (places_kept d gone e) w.1 ∙ far_next))
           | inr w ↦ inr (ap (places_kept d gone k) w.0, side ∙ ap (places_kept d gone e) w.1)

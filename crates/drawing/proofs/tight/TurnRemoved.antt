@@ -108,9 +108,9 @@ module _ (d : Drawing) (ok : IsEmbedded d) (i : ℕ) (us : List Exit) (u v : Exi
       let g = places_meet d ok i us u v vs turn in
       let w = places d ok i us u v vs turn in
       let far = far_count d ok i us u v vs turn in
-      let m : points_on d v.side ≡ points_on d u.side = ap (points_on d) turn.returns ∙ far in
-      let o : offset d v.side ≡ offset d (partner d.polygon u.side) = ap (offset d) turn.returns in
-      let b : offset d (partner d.polygon v.side) ≡ offset d u.side = ap (λ x. offset d (partner d.polygon x)) turn.returns ∙ ap (offset d) (ok.polygon.pairs.twice u.side) in
+      let m : points_on d v.side ≡ points_on d u.side = ap (points_on d) turn.turns.returns ∙ far in
+      let o : offset d v.side ≡ offset d (partner d.polygon u.side) = ap (offset d) turn.turns.returns in
+      let b : offset d (partner d.polygon v.side) ≡ offset d u.side = ap (λ x. offset d (partner d.polygon x)) turn.turns.returns ∙ ap (offset d) (ok.polygon.pairs.twice u.side) in
       let at : offset d v.side + v.place ≢ y = λ q. misses_far l j v.place h (elim w [ inl x ↦ inr x.1 | inr x ↦ inl x.1 ]) (omega (arith, vp, far)) (sym (ap (λ z. z + v.place) o) ∙ q) in
       let entered : offset d (partner d.polygon v.side) + (points_on d v.side - 1 - v.place) ≢ y = λ q.
       misses_near l j (points_on d v.side - 1 - v.place) h (elim w [ inl x ↦ inl (omega (arith, x, g, m)) | inr x ↦ inr (omega (arith, x, g, m)) ]) (omega (arith, vp, m))
@@ -177,7 +177,7 @@ module _ (d : Drawing) (ok : IsEmbedded d) (i : ℕ) (us : List Exit) (u v : Exi
     letters us,
     letters vs,
     u.side,
-    ap letters turn.splits ∙ (letters_split us u (v ∷ vs) ∙ ap (λ x. letters us ++ (u.side ∷ x ∷ letters vs)) turn.returns),
+    ap letters turn.splits ∙ (letters_split us u (v ∷ vs) ∙ ap (λ x. letters us ++ (u.side ∷ x ∷ letters vs)) turn.turns.returns),
     ap letters (strand_new d ok i us u v vs turn i turn.arc) ∙ (letters_lowered (row d ok i us u v vs turn i) ∙ (ap letters (row_there d ok i us u v vs turn) ∙ map-append (λ (e : Exit). e.side) us vs)),
   )
 

@@ -1,7 +1,7 @@
 use Rattle.std.proofs.Common.{◌≡◌, ◌+◌, ◌<◌, ◌≤◌, ℕ, get_or}
 use Rattle.std.specs.List.{sum_by}
 use Rattle.obd_base.specs.Lists.{below}
-use Rattle.drawing.specs.Thinned.{points_left}
+use Rattle.drawing.specs.ThinTables.{points_left}
 use Rattle.drawing.proofs.thinning.move_sides.Given as goal
 
 -- the sides so far begin where they are to, and the others where they did

@@ -1,4 +1,4 @@
-use Rattle.drawing.specs.Thinned.{AreNumbered, is_gone}
+use Rattle.drawing.specs.ThinTables.{AreNumbered, is_gone}
 use Rattle.drawing.proofs.thinning.number_points.Given as goal
 
 -- the sides so far are numbered

@@ -1,6 +1,6 @@
 use Rattle.std.proofs.Common.{◌∙◌, ap, arith}
 use Rattle.page_surface.specs.Drawing.{spot}
-use Rattle.drawing.specs.Thinned.{is_gone}
+use Rattle.drawing.specs.ThinTables.{is_gone}
 use Rattle.drawing.proofs.PlaceTables.{gone_uncounted, place_more, side_numbered, stays_counted}
 use Rattle.drawing.proofs.thinning.number_side.Goals as goal
 use Rattle.drawing.proofs.thinning.number_side.Goals.{then-not-gone-number, else-not-gone-number}

@@ -1,6 +1,7 @@
 use Rattle.std.proofs.Common.{◌≡◌, ◌+◌, ◌<◌, ◌≤◌, ℕ, get_or}
 use Rattle.page_surface.specs.Drawing.{offset}
-use Rattle.drawing.specs.Thinned.{AreNumbered, is_gone, places_kept}
+use Rattle.drawing.specs.ThinTables.{AreNumbered, is_gone}
+use Rattle.drawing.specs.Thinned.{places_kept}
 use Rattle.drawing.proofs.thinning.number_side.Given as goal
 
 -- the sides before and the points of this side so far are numbered

@@ -1,5 +1,5 @@
 use Rattle.std.proofs.Common.{◌≡◌, ◌≤◌, drop, take}
-use Rattle.drawing.specs.Thinned.{thinned_by}
+use Rattle.drawing.specs.ThinTables.{thinned_by}
 use Rattle.drawing.proofs.thinning.thin_strand.Given as goal
 
 -- first the exits that stay of those so far, and from here on all as they were

@@ -1,7 +1,7 @@
 use Rattle.std.proofs.Common.{List, subst, sym}
 use Rattle.obd_base.specs.declared.points.Exit.{Exit}
 use Rattle.obd_base.specs.Lists.{Mem}
-use Rattle.drawing.specs.Thinned.{thinned_by}
+use Rattle.drawing.specs.ThinTables.{thinned_by}
 use Rattle.drawing.proofs.ThinTables.{row_mem, row_unread, row_written}
 use Rattle.drawing.proofs.thinning.thin_strands.Goals as goal
 

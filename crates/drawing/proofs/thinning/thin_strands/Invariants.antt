@@ -1,5 +1,5 @@
 use Rattle.std.proofs.Common.{◌≡◌, ◌++◌, drop, map, take}
-use Rattle.drawing.specs.Thinned.{thinned_by}
+use Rattle.drawing.specs.ThinTables.{thinned_by}
 use Rattle.drawing.proofs.thinning.thin_strands.Given as goal
 
 -- the strands so far, and the others as they were

@@ -1,5 +1,6 @@
 use Rattle.std.proofs.Common.{◌≡◌, ◌≤◌}
-use Rattle.drawing.specs.Thinned.{TurnsGone, is_gone}
+use Rattle.drawing.specs.ThinTables.{is_gone}
+use Rattle.drawing.specs.Thinned.{TurnsGone}
 use Rattle.drawing.specs.Turns.{NoTurnBefore}
 use Rattle.drawing.proofs.turns.take_strand.Given as goal
 

@@ -1,6 +1,6 @@
 use Rattle.std.proofs.Common.{ap, arith, false, sym}
 use Rattle.page_surface.specs.Polygon.{sides}
-use Rattle.drawing.specs.Thinned.{is_gone}
+use Rattle.drawing.specs.ThinTables.{is_gone}
 use Rattle.drawing.proofs.Thinned.{turns_gone_none, turns_gone_same}
 use Rattle.drawing.proofs.TurnTables.{no_turn_strands, no_turn_tight}
 use Rattle.drawing.proofs.turns.take_turns.Goals as goal

@@ -1,6 +1,7 @@
 use Rattle.std.proofs.Common.{◌≡◌, ◌<◌, ℕ, length}
 use Rattle.page_surface.specs.Drawing.{strand_exits}
-use Rattle.drawing.specs.Thinned.{TurnsGone, is_gone}
+use Rattle.drawing.specs.ThinTables.{is_gone}
+use Rattle.drawing.specs.Thinned.{TurnsGone}
 use Rattle.drawing.specs.Turns.{NoTurnBefore}
 use Rattle.drawing.proofs.turns.take_turns.Given as goal
 
