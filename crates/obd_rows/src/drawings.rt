@@ -181,68 +181,85 @@ fn counts_text(alloc: Global, drawing: &Drawing) -> Result<String, Fail> {
     Ok(text)
 }
 
+// The exits and the counts of the drawing that is read.
+fn told(alloc: Global, page: &str, exits: &str) -> Result<String, Fail> {
+    let polygon = polygon_of(alloc, page)?;
+    let Ok(drawing) = read(alloc, &polygon, exits)? else {
+        return Err(Fail::new("refused"));
+    };
+    let mut text = exits_text(alloc, &drawing)?;
+    text.push_str("; ")?;
+    text.push_str(counts_text(alloc, &drawing)?.as_str())?;
+    Ok(text)
+}
+
 #[test]
 fn printed_drawings_tell_of_themselves(rt: HostRuntime) -> Result<(), Fail> {
     let alloc = rt.alloc();
-    for (page, exits, counts) in [
-        ("AA", "1.1 1.0 ", "2 points, on sides 2 2; 3 chords 1 1"),
+    for (page, exits, want) in [
         (
-            "ABAB",
-            "3.0 3.1 | 0.0 ",
-            "3 points, on sides 1 2 1 2; 3 chords 3 3; 2 chords 0",
+            "AA",
+            "1.1 1.0",
+            "1.1 1.0 ; 2 points, on sides 2 2; 3 chords 1 1",
         ),
         (
             "ABAB",
-            "1.1 | 3.2 3.0 ",
-            "3 points, on sides 0 3 0 3; 2 chords 1; 3 chords 3 3",
+            "3.0 3.1 | 0.0",
+            "3.0 3.1 | 0.0 ; 3 points, on sides 1 2 1 2; 3 chords 3 3; 2 chords 0",
         ),
         (
             "ABAB",
-            "3.0 2.1 1.2 1.3 2.3 3.5 | 0.0 3.1 2.2 3.4 0.4 ",
-            "11 points, on sides 5 6 5 6; 7 chords 3 2 1 1 2 3; 6 chords 0 3 2 3 0",
+            "1.1 | 3.2 3.0",
+            "1.1 | 3.2 3.0 ; 3 points, on sides 0 3 0 3; 2 chords 1; 3 chords 3 3",
+        ),
+        (
+            "ABAB",
+            "3.0 2.1 1.2 1.3 2.3 3.5 | 0.0 3.1 2.2 3.4 0.4",
+            "3.0 2.1 1.2 1.3 2.3 3.5 | 0.0 3.1 2.2 3.4 0.4 ; 11 points, on sides 5 6 5 6; 7 chords 3 2 1 1 2 3; 6 chords 0 3 2 3 0",
         ),
         (
             "ABACBDCD",
-            "3.0 7.1 4.0 | 5.0 6.0 | 7.0 | ",
-            "6 points, on sides 0 1 0 2 1 3 2 3; 4 chords 3 7 4; 3 chords 5 6; 2 chords 7; 1 chords",
+            "3.0 7.1 4.0 | 5.0 6.0 | 7.0 |",
+            "3.0 7.1 4.0 | 5.0 6.0 | 7.0 | ; 6 points, on sides 0 1 0 2 1 3 2 3; 4 chords 3 7 4; 3 chords 5 6; 2 chords 7; 1 chords",
         ),
     ] {
-        let polygon = polygon_of(alloc, page)?;
-        let Ok(drawing) = read(alloc, &polygon, exits)? else {
-            return Err(Fail::new("refused"));
-        };
-        assert_eq!(rt; exits_text(alloc, &drawing)?.as_str(), exits);
-        assert_eq!(rt; counts_text(alloc, &drawing)?.as_str(), counts);
+        assert_eq!(rt; told(alloc, page, exits)?.as_str(), want);
     }
     Ok(())
+}
+
+// The exits and the counts of the identity drawing, and the exits of the diagram's drawing.
+fn identity_told(alloc: Global, page: &str) -> Result<String, Fail> {
+    let polygon = polygon_of(alloc, page)?;
+    let Ok(drawing) = Drawing::identity(alloc, &polygon) else {
+        return Err(Fail::new("no memory"));
+    };
+    let Ok(diagram) = first(alloc, &polygon) else {
+        return Err(Fail::new("no memory"));
+    };
+    let mut text = exits_text(alloc, &drawing)?;
+    text.push_str("; ")?;
+    text.push_str(counts_text(alloc, &drawing)?.as_str())?;
+    text.push_str("; ")?;
+    text.push_str(exits_text(alloc, diagram.drawing())?.as_str())?;
+    Ok(text)
 }
 
 #[test]
 fn the_identity_drawing_tells_of_itself(rt: HostRuntime) -> Result<(), Fail> {
     let alloc = rt.alloc();
-    for (page, exits, counts) in [
+    for (page, want) in [
         (
             "ABAB",
-            "2.0 | 3.0 ",
-            "2 points, on sides 1 1 1 1; 2 chords 2; 2 chords 3",
+            "2.0 | 3.0 ; 2 points, on sides 1 1 1 1; 2 chords 2; 2 chords 3; 2.0 | 3.0 ",
         ),
-        ("AA", "1.0 ", "1 points, on sides 1 1; 2 chords 1"),
+        ("AA", "1.0 ; 1 points, on sides 1 1; 2 chords 1; 1.0 "),
         (
             "ABABCDCDEE",
-            "2.0 | 3.0 | 6.0 | 7.0 | 9.0 ",
-            "5 points, on sides 1 1 1 1 1 1 1 1 1 1; 2 chords 2; 2 chords 3; 2 chords 6; 2 chords 7; 2 chords 9",
+            "2.0 | 3.0 | 6.0 | 7.0 | 9.0 ; 5 points, on sides 1 1 1 1 1 1 1 1 1 1; 2 chords 2; 2 chords 3; 2 chords 6; 2 chords 7; 2 chords 9; 2.0 | 3.0 | 6.0 | 7.0 | 9.0 ",
         ),
     ] {
-        let polygon = polygon_of(alloc, page)?;
-        let Ok(drawing) = Drawing::identity(alloc, &polygon) else {
-            return Err(Fail::new("no memory"));
-        };
-        assert_eq!(rt; exits_text(alloc, &drawing)?.as_str(), exits);
-        assert_eq!(rt; counts_text(alloc, &drawing)?.as_str(), counts);
-        let Ok(diagram) = first(alloc, &polygon) else {
-            return Err(Fail::new("no memory"));
-        };
-        assert_eq!(rt; exits_text(alloc, diagram.drawing())?.as_str(), exits);
+        assert_eq!(rt; identity_told(alloc, page)?.as_str(), want);
     }
     Ok(())
 }

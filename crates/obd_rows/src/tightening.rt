@@ -1,7 +1,18 @@
 // Drawings with turns, and the tight drawing of each: the exits before and after. The latter come from a script of its
 // own, which ranks the points of a side by their goals as the definition says.
 use crate::drawings::{exits_text, polygon_of, read};
+use std::alloc::Global;
 use std::test::Fail;
+
+// The exits of the drawing with these exits, made tight.
+fn tightened(alloc: Global, page: &str, exits: &str) -> Result<String, Fail> {
+    let polygon = polygon_of(alloc, page)?;
+    let Ok(mut drawing) = read(alloc, &polygon, exits)? else {
+        return Err(Fail::new("refused"));
+    };
+    drawing.tighten();
+    exits_text(alloc, &drawing)
+}
 
 #[test]
 fn drawings_become_tight(rt: HostRuntime) -> Result<(), Fail> {
@@ -82,12 +93,7 @@ fn drawings_become_tight(rt: HostRuntime) -> Result<(), Fail> {
             "3.0 2.1 1.2 1.3 2.3 3.5 | 0.0 3.1 2.2 3.4 0.4 ",
         ),
     ] {
-        let polygon = polygon_of(alloc, page)?;
-        let Ok(mut drawing) = read(alloc, &polygon, exits)? else {
-            return Err(Fail::new("refused"));
-        };
-        drawing.tighten();
-        assert_eq!(rt; exits_text(alloc, &drawing)?.as_str(), want, "{exits}");
+        assert_eq!(rt; tightened(alloc, page, exits)?.as_str(), want, "{exits}");
     }
     Ok(())
 }
