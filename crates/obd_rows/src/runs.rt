@@ -1,4 +1,5 @@
 // Runs of the top call over the ends in memory.
+use crate::calls::answer_of;
 use obd_base::{MemSink, MemSource, NullSink, SureSource};
 use obd_cli::{DOCUMENT_LIMIT, Status, run};
 use std::alloc::Global;
@@ -44,10 +45,15 @@ fn words(alloc: Global, texts: &[&str]) -> Result<Vec<String>, Fail> {
     Ok(words)
 }
 
+// Whether a run of `decide` ends so and writes this text.
+fn is_answer(alloc: Global, document: &str, text: &str, status: Status) -> Result<bool, Fail> {
+    let want = format!(in alloc; "{status:?}: {text}")?;
+    Ok(answer_of(alloc, "decide", document.as_bytes())?.as_str() == want.as_str())
+}
+
 #[test]
 fn documents_are_answered(rt: HostRuntime) -> Result<(), Fail> {
     let alloc = rt.alloc();
-    let decide = words(alloc, &["decide"])?;
     assert_eq!(rt; ANNULUS_TEXT.len(), 191);
     for (document, text, status) in [
         (ANNULUS, ANNULUS_TEXT, Status::Done),
@@ -76,14 +82,7 @@ fn documents_are_answered(rt: HostRuntime) -> Result<(), Fail> {
         ),
         ("", "refused 2 Json 0\n", Status::Refused),
     ] {
-        let mut source = SureSource::new(document.as_bytes().to_vec(alloc)?);
-        let mut sink = MemSink::new(alloc, 1000, 100, Vec::new(alloc))?;
-        assert_eq!(rt;
-            run(alloc, &decide, &mut source, &mut sink),
-            status,
-            "{document}"
-        );
-        assert_eq!(rt; sink.taken(), text.as_bytes(), "{document}");
+        assert!(rt; is_answer(alloc, document, text, status)?, "{document}");
     }
     Ok(())
 }
@@ -113,48 +112,54 @@ fn no_word_gives_the_usage_line(rt: HostRuntime) -> Result<(), Fail> {
     Ok(())
 }
 
+// How a run with one word ends over a source whose first read fails, and what it writes.
+fn unread(alloc: Global, word: &str) -> Result<String, Fail> {
+    let words = words(alloc, &[word])?;
+    let mut source = MemSource::new(ANNULUS.as_bytes().to_vec(alloc)?, 16, vec![in alloc; 1]?);
+    let mut sink = MemSink::new(alloc, 1000, 100, Vec::new(alloc))?;
+    let status = run(alloc, &words, &mut source, &mut sink);
+    let Ok(text) = str::from_utf8(sink.taken()) else {
+        return Err(Fail::new("not UTF-8"));
+    };
+    Ok(format!(in alloc; "{status:?}: {text}")?)
+}
+
 #[test]
 fn words_that_are_no_command_give_the_usage_line(rt: HostRuntime) -> Result<(), Fail> {
     let alloc = rt.alloc();
     for word in ["solve", "", "Decide", "decide "] {
-        let words = words(alloc, &[word])?;
-        let mut source = MemSource::new(ANNULUS.as_bytes().to_vec(alloc)?, 16, vec![in alloc; 1]?);
-        let mut sink = MemSink::new(alloc, 1000, 100, Vec::new(alloc))?;
         assert_eq!(rt;
-            run(alloc, &words, &mut source, &mut sink),
-            Status::Usage,
+            unread(alloc, word)?.as_str(),
+            "Usage: usage: obd decide | page | check | sample SEED TWISTS\n",
             "{word}"
         );
-        assert_eq!(rt; sink.taken(), USAGE.as_bytes(), "{word}");
     }
     Ok(())
+}
+
+// How a run of `decide` ends where one read of the annulus fails, and how many bytes it writes.
+fn read_failing(alloc: Global, failing: u32) -> Result<String, Fail> {
+    let decide = words(alloc, &["decide"])?;
+    let bytes = ANNULUS.as_bytes().to_vec(alloc)?;
+    let mut source = MemSource::new(bytes, 16, vec![in alloc; failing]?);
+    let mut sink = MemSink::new(alloc, 1000, 100, Vec::new(alloc))?;
+    let status = run(alloc, &decide, &mut source, &mut sink);
+    Ok(format!(in alloc; "{status:?} {}", sink.taken().len())?)
 }
 
 #[test]
 fn a_source_that_fails_at_any_read_leaves_nothing_written(rt: HostRuntime) -> Result<(), Fail> {
     let alloc = rt.alloc();
-    let decide = words(alloc, &["decide"])?;
     // In pieces of 16 the document takes four reads, and its end a fifth.
-    for (failing, status, size) in [
-        (1, Status::ReadFault, 0),
-        (2, Status::ReadFault, 0),
-        (3, Status::ReadFault, 0),
-        (4, Status::ReadFault, 0),
-        (5, Status::ReadFault, 0),
-        (6, Status::Done, 191),
+    for (failing, want) in [
+        (1, "ReadFault 0"),
+        (2, "ReadFault 0"),
+        (3, "ReadFault 0"),
+        (4, "ReadFault 0"),
+        (5, "ReadFault 0"),
+        (6, "Done 191"),
     ] {
-        let mut source = MemSource::new(
-            ANNULUS.as_bytes().to_vec(alloc)?,
-            16,
-            vec![in alloc; failing]?,
-        );
-        let mut sink = MemSink::new(alloc, 1000, 100, Vec::new(alloc))?;
-        assert_eq!(rt;
-            run(alloc, &decide, &mut source, &mut sink),
-            status,
-            "{failing}"
-        );
-        assert_eq!(rt; sink.taken().len(), size, "{failing}");
+        assert_eq!(rt; read_failing(alloc, failing)?.as_str(), want, "{failing}");
     }
     Ok(())
 }
