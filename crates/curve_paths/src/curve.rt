@@ -11,9 +11,15 @@ use std::marker::Model;
 /// the list of its exits, read round: the side by which it leaves, and the place of the point on that side,
 /// counted from the side's start among the curve's own points. Its type keeps that it is a curve of some
 /// polygon, with 1 to 32 exits.
-#[derive(Drop)]
 pub struct Curve {
     exits: Items<Exit>,
+}
+
+// By hand, so that a caller's proof holds one call and not the drop of each field.
+impl Drop for Curve {
+    fn drop(self) {
+        let Curve { exits: _exits } = self;
+    }
 }
 
 impl Model for Curve {

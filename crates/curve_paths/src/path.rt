@@ -17,21 +17,38 @@ use std::marker::Model;
 
 /// One crossing of a curve with a label: the occurrence through which the curve leaves, and the place among
 /// the curve's own points of the label, from the start of occurrence 0.
-#[derive(Drop)]
 pub struct Cross {
     pub label: Name,
     pub occurrence: u8,
     pub place: u32,
 }
 
+// By hand, so that a caller's proof holds one call and not the drop of each field.
+impl Drop for Cross {
+    fn drop(self) {
+        let Cross { label: _label, .. } = self;
+    }
+}
+
 /// A curve on a page: a path of crossings, read round, that keeps the rules of `CurveRefusal`. Contracts see
 /// it as its page and its path. Its type keeps that no rule fails.
-#[derive(Drop)]
 pub struct PageCurve {
     polygons: Items<Items<Name>>,
     path: Items<Cross>,
     crossings: Vec<Crossing>,
     counts: Vec<u32>,
+}
+
+// By hand, so that a caller's proof holds one call and not the drop of each field.
+impl Drop for PageCurve {
+    fn drop(self) {
+        let PageCurve {
+            polygons: _polygons,
+            path: _path,
+            crossings: _crossings,
+            counts: _counts,
+        } = self;
+    }
 }
 
 impl Model for PageCurve {

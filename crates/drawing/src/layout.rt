@@ -18,11 +18,21 @@ use std::marker::Model;
 // A drawing as it is written, right or not: a strand for each arc, with exits on sides of the polygon, fewer than
 // 2^28 of them. It knows where each side begins in the place order, so that a point has its number in constant
 // time. No call but `of` takes memory.
-#[derive(Drop)]
 pub(crate) struct Layout {
     polygon: Polygon,
     strands: Vec<Items<Exit>>,
     offsets: Vec<u32>,
+}
+
+// By hand, so that a caller's proof holds one call and not the drop of each field.
+impl Drop for Layout {
+    fn drop(self) {
+        let Layout {
+            polygon: _polygon,
+            strands: _strands,
+            offsets: _offsets,
+        } = self;
+    }
 }
 
 impl Model for Layout {

@@ -20,9 +20,15 @@ use std::alloc::Global;
 use std::marker::Model;
 
 /// A diagram. Contracts see it as its drawing.
-#[derive(Drop)]
 pub struct Diagram {
     drawing: Drawing,
+}
+
+// By hand, so that a caller's proof holds one call and not the drop of each field.
+impl Drop for Diagram {
+    fn drop(self) {
+        let Diagram { drawing: _drawing } = self;
+    }
 }
 
 impl Model for Diagram {

@@ -39,7 +39,6 @@ pub enum Verdict {
 }
 
 /// The fields of a certificate, in the order of its lines.
-#[derive(Drop)]
 pub struct Certificate {
     pub version: u32,
     pub polygons: Items<Items<Name>>,
@@ -58,6 +57,27 @@ pub struct Certificate {
     pub rank: u32,
     pub homology: i32,
     pub verdict: Verdict,
+}
+
+// By hand, so that a caller's proof holds one call and not the drop of each field.
+impl Drop for Certificate {
+    fn drop(self) {
+        let Certificate {
+            polygons: _polygons,
+            curves: _curves,
+            slides: _slides,
+            twists: _twists,
+            seams: _seams,
+            basis: _basis,
+            strands: _strands,
+            fingers: _fingers,
+            finals: _finals,
+            points: _points,
+            pivots: _pivots,
+            verdict: _verdict,
+            ..
+        } = self;
+    }
 }
 
 impl Word for Cross {
