@@ -26,7 +26,11 @@ pub struct Cross {
 // By hand, so that a caller's proof holds one call and not the drop of each field.
 impl Drop for Cross {
     fn drop(self) {
-        let Cross { label: _label, .. } = self;
+        let Cross {
+            label: _label,
+            occurrence: _occurrence,
+            place: _place,
+        } = self;
     }
 }
 

@@ -36,11 +36,12 @@ pub struct Drawing {
 impl Drop for Drawing {
     fn drop(self) {
         let Drawing {
+            alloc: _alloc,
             layout: _layout,
+            points: _points,
             strands_at: _strands_at,
             gone: _gone,
             places: _places,
-            ..
         } = self;
     }
 }

@@ -51,7 +51,7 @@ impl Drop for Book {
             curves: _curves,
             twists: _twists,
             slides: _slides,
-            ..
+            limits: _limits,
         } = self;
     }
 }
