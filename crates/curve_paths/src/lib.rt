@@ -12,11 +12,13 @@ mod copies;
 mod crossing;
 mod curve;
 mod joined;
+mod named;
 mod path;
 mod places;
 mod refusal;
 
 pub use copies::{copied_path, page_names};
 pub use curve::Curve;
+pub use named::{NamedPath, NamedTwist};
 pub use path::{Cross, PageCurve};
 pub use refusal::CurveRefusal;

@@ -4,7 +4,8 @@ use Rattle.std.proofs.lemmas.Bool.{and_parts, and_from, false≢true, leb-true, 
 use Rattle.obd_base.specs.Lists.{Once, has}
 use Rattle.page_surface.specs.Drawing.{Drawing, exit, points_on, spot, strand_exits}
 use Rattle.page_surface.specs.Polygon.{arc_count, sides}
-use Rattle.drawing.specs.Fingers.{Finger, IsLegal, borders, chord_at, is_legal}
+use Rattle.drawing.specs.declared.finger.Finger.{Finger}
+use Rattle.drawing.specs.Fingers.{IsLegal, borders, chord_at, is_legal}
 use Rattle.drawing.proofs.Lists.{has_mem, mem_has}
 use Rattle.drawing.specs.Points.{IsGenerator, all_different, crossings_of, is_generator, strands_of}
 

@@ -6,15 +6,9 @@ use Rattle.obd_base.specs.declared.points.Exit.{Exit}
 use Rattle.page_surface.specs.Drawing.{Chord, Drawing, chords, exit, is_embedded, points_on, spot, strand_chords, strand_exits}
 use Rattle.page_surface.specs.Polygon.{arc_count, partner, sides}
 use Rattle.drawing.specs.Pieces.{same_piece, segments_in}
+use Rattle.drawing.specs.declared.finger.Finger.{Finger}
 
--- a chord of a strand is pushed into a segment of a side
-pub record Finger : Type 0 where
-  pub strand : ℕ
-  pub chord : ℕ
-  pub side : ℕ
-  pub segment : ℕ
-
--- a finger by its four numbers
+-- a finger by its four numbers: the chord of a strand that is pushed, and the segment of a side into which it goes
 abbrev pub finger : ℕ → ℕ → ℕ → ℕ → Finger
 finger strand chord side segment = record { strand = strand; chord = chord; side = side; segment = segment }
 

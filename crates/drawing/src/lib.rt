@@ -10,6 +10,7 @@
 mod chords;
 mod counts;
 mod drawing;
+mod finger;
 mod identity;
 mod layout;
 mod pieces;
@@ -21,4 +22,5 @@ mod thinning;
 mod turns;
 
 pub use drawing::Drawing;
+pub use finger::Finger;
 pub use refusal::DrawRefusal;

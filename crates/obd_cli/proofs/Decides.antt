@@ -7,7 +7,7 @@ use Rattle.std.specs.Option.{option_map_or}
 use Rattle.obd_doc.specs.Document.{book_read, refusal_of}
 use Rattle.obd_doc.specs.declared.book.Book.{Book}
 use Rattle.obd_doc.specs.declared.refusal.DocRefusal.{DocRefusal}
-use Rattle.obd_cli.specs.Run.{AnswersBuilt, AnswersDoc, Finished, IsFault, Owes, Told, book_status, has_text, not_built, page_answer, status_owed}
+use Rattle.obd_cli.specs.Run.{AnswersBuilt, AnswersDoc, Finished, IsFault, Owes, Told, book_status, has_text, most_bytes, not_built, page_answer, status_owed}
 use Rattle.obd_cli.specs.Words.{book_words, words_text}
 use Rattle.obd_cli.specs.declared.status.Command.{Command}
 use Rattle.obd_cli.specs.declared.status.Command.TheVariants as command
@@ -15,7 +15,6 @@ use Rattle.obd_cli.specs.declared.status.Answer.{Answer}
 use Rattle.obd_cli.specs.declared.status.Status.{Status}
 use Rattle.obd_cli.specs.declared.status.Status.TheVariants as status
 use Rattle.obd_cli.specs.declared.words.TooLong.{TooLong}
-use Rattle.obd_cli.specs.declared.top.TheConstants.{DOCUMENT_LIMIT}
 
 -- an answer with Done is one to a book that is taken
 built_done : (command : Command) (book : Book) (what : Option (List ℕ)) (answer : Answer) → AnswersBuilt command book what answer → answer.status ≡ status.Done → AnswersBuilt command book None answer
@@ -106,11 +105,11 @@ doc_status command bytes None None answer is read answers = absurd answers
 owed_status : (command : Command) (bytes : List ℕ) (now_left : Option (List ℕ)) (answer : Answer) → Owes (Some command) (Some bytes) now_left answer → answer.status ≡ status_owed command bytes
 owed_status command bytes now_left answer (inl all) =
     let same = all_given bytes all.bytes now_left all.gave all.ended in
-    let within : ltb DOCUMENT_LIMIT (length bytes) ≡ false = le-ltb DOCUMENT_LIMIT (length bytes) (omega (arith, all.within, ap length same)) in
+    let within : ltb most_bytes (length bytes) ≡ false = le-ltb most_bytes (length bytes) (omega (arith, all.within, ap length same)) in
     let by_bytes = doc_status command all.bytes (refusal_of all.bytes) (book_read all.bytes) answer refl refl all.answers in
     rw within (by_bytes ∙ ap (λ bs. option_map_or (λ b. book_status command b (not_built command b)) (book_read bs) status.Refused) same)
 owed_status command bytes now_left answer (inr long) =
-    let above : ltb DOCUMENT_LIMIT (length bytes) ≡ true = lt-ltb DOCUMENT_LIMIT (length bytes) (omega (arith, long.size, as_many bytes long.bytes now_left long.gave)) in
+    let above : ltb most_bytes (length bytes) ≡ true = lt-ltb most_bytes (length bytes) (omega (arith, long.size, as_many bytes long.bytes now_left long.gave)) in
     rw above (ap (λ (a : Answer). a.status) long.answers)
 
 -- a run over a source that tells its bytes ends with the status that is owed, or a fault

@@ -2,8 +2,6 @@ mod Built
 mod Collected
 mod Listed
 mod Decides
-mod Joined
 mod Made
 mod Named
-mod Numbered
 mod WordsSoFar

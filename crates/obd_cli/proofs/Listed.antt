@@ -14,10 +14,11 @@ use Rattle.drawing.specs.Points.{all_lists, crossings_of, generators}
 use Rattle.hkm_diagram.specs.Domains.{columns as columns_of}
 use Rattle.hkm_diagram.proofs.IdentityColumns.{identity_columns, identity_generator_count, identity_generators}
 use Rattle.mod2_rank.proofs.EmptyColumns.{column_empty, empty_columns, empty_outcome, rank_zero}
-use Rattle.obd_cli.specs.Belongs.{Concludes, IsComplexOf, IsOutcomeOf, rows_of}
-use Rattle.obd_cli.specs.declared.complex.Outcome.{Outcome}
-use Rattle.obd_cli.specs.declared.certificate.Pivot.{Pivot}
-use Rattle.obd_cli.specs.declared.certificate.Verdict.TheVariants.{Functional}
+use Rattle.mod2_rank.specs.Linear.{Concludes, IsOutcomeOf}
+use Rattle.obd_cli.specs.Belongs.{IsComplexOf, rows_of}
+use Rattle.mod2_rank.specs.declared.outcome.Outcome.{Outcome}
+use Rattle.mod2_rank.specs.declared.outcome.Pivot.{Pivot}
+use Rattle.mod2_rank.specs.declared.outcome.Verdict.TheVariants.{Functional}
 
 -- the lists of one number more
 pub joined_more : {A : Type 0} (f : ℕ → List A) (n : ℕ) (now then : List A) → now ≡ flat_map f (below n) → then ≡ now ++ f n → then ≡ flat_map f (below (n + 1))
@@ -73,7 +74,7 @@ rows_empty items columns is =
 -- the number of generators and the outcome of the columns that were made
 pub complex_made : (d : Drawing) (lists seen : List (List ℕ)) (columns found : List Column) (outcome : Outcome) (count : ℕ) → IsPolygon d.polygon → d ≡ identity d.polygon
     → lists ≡ generators d → 1 ≤ length lists → length lists ≤ 256 → seen ≡ lists → rows_of columns ≡ empty_columns seen → found ≡ columns
-    → IsOutcomeOf (rows_of found) outcome → outcome.rank ≤ length found → count ≡ length lists → IsComplexOf d (record { generators = count; outcome = outcome })
+    → IsOutcomeOf (length found) (rows_of found) outcome → outcome.rank ≤ length found → count ≡ length lists → IsComplexOf d (record { generators = count; outcome = outcome })
 complex_made d lists seen columns found outcome count ok is all least most same rows given concludes rank counted =
     let columns_are : rows_of found ≡ columns_of d
     = ap rows_of given ∙ (rows ∙ (ap empty_columns (same ∙ all) ∙ (ap (λ (e : Drawing). empty_columns (generators e)) is ∙ (sym (identity_columns d.polygon ok) ∙ ap columns_of (sym is))))) in
@@ -81,7 +82,7 @@ complex_made d lists seen columns found outcome count ok is all least most same 
       count = counted ∙ ap length all;
       least = omega (arith, least, counted);
       most = omega (arith, most, counted);
-      concludes = subst (λ cs. IsOutcomeOf cs outcome) columns_are concludes;
+      concludes = subst (λ cs. IsOutcomeOf (length cs) cs outcome) columns_are (subst (λ n. IsOutcomeOf n (rows_of found) outcome) (sym (length-map found (λ (column : Column). column.rows))) concludes);
       rank = omega (arith, rank, ap length given, (rows_empty seen columns rows).1, ap length same, counted);
     }
 
@@ -94,11 +95,10 @@ all_rows_empty (column ∷ columns) all =
 
 -- conclude with no pivot, and the last row alone
 pub empty_concludes : (columns : List Column) (pivots : List Pivot) (rank contact : ℕ) (rows : List ℕ) → All (λ column. column.rows ≡ []) columns → 0 < length columns
-    → pivots ≡ [] → rank ≡ 0 → contact + 1 ≡ length columns → rows ≡ contact ∷ [] → Concludes (rows_of columns) pivots rank (Functional rows)
+    → pivots ≡ [] → rank ≡ 0 → contact + 1 ≡ length columns → rows ≡ contact ∷ [] → Concludes (length columns) (rows_of columns) pivots rank (Functional rows)
 empty_concludes columns pivots rank contact rows all some no_pivot zero_rank last alone =
-    let count : length (empty_columns columns) ≡ length columns = length-map columns (λ column. []) in
-    let row : contact ≡ length (empty_columns columns) - 1 = omega (arith, last, count) in
-    subst (λ cs. Concludes cs pivots rank (Functional rows)) (sym (all_rows_empty columns all)) (rw (no_pivot, zero_rank, alone, row) (record {
-      outcome = empty_outcome columns (length (empty_columns columns)) (omega (arith, some, count));
-      rank_is = rank_zero columns (length (empty_columns columns));
+    let row : contact ≡ length columns - 1 = omega (arith, last) in
+    subst (λ cs. Concludes (length columns) cs pivots rank (Functional rows)) (sym (all_rows_empty columns all)) (rw (no_pivot, zero_rank, alone, row) (record {
+      outcome = empty_outcome columns (length columns) some;
+      rank_is = rank_zero columns (length columns);
     }))

@@ -16,8 +16,8 @@ use Rattle.mod2_rank.specs.Linear.{column_at}
 use Rattle.mod2_rank.proofs.EmptyColumns.{column_empty}
 use Rattle.obd_cli.specs.Belongs.{BelongsTo, IsMade, paths_of}
 use Rattle.obd_doc.specs.declared.book.Book.{Book}
-use Rattle.obd_doc.specs.declared.entries.NamedPath.{NamedPath}
-use Rattle.obd_cli.specs.declared.certificate.Certificate.{Certificate}
+use Rattle.curve_paths.specs.declared.named.NamedPath.{NamedPath}
+use Rattle.witness_check.specs.declared.certificate.Certificate.{Certificate}
 
 -- the last of some items
 last_of : {A : Type 0} (before : List A) (x : A) (items : List A) (i : ℕ) → items ≡ before ++ x ∷ [] → i + 1 ≡ length items → slice_get items i ≡ Some x

@@ -8,17 +8,13 @@ use Rattle.page_surface.specs.Labels.{Label, labels_of}
 use Rattle.page_surface.specs.Polygon.{IsPolygon, Polygon, arc, arc_count, sides}
 use Rattle.drawing.specs.Points.{contact_generator, generators}
 use Rattle.hkm_diagram.specs.Domains.{columns}
-use Rattle.mod2_rank.specs.Linear.{IsOutcome, IsRank, Verdict as Found, chain, column_at, functional}
+use Rattle.mod2_rank.specs.Linear.{Concludes, IsOutcomeOf, column_at}
 use Rattle.obd_doc.specs.declared.book.Book.{Book}
 use Rattle.obd_doc.specs.declared.book.NamedCurve.{NamedCurve}
-use Rattle.obd_doc.specs.declared.entries.NamedPath.{NamedPath}
-use Rattle.obd_doc.specs.declared.entries.NamedTwist.{NamedTwist}
-use Rattle.obd_cli.specs.declared.certificate.Certificate.{Certificate}
-use Rattle.obd_cli.specs.declared.certificate.Pivot.{Pivot}
-use Rattle.obd_cli.specs.declared.certificate.Verdict.{Verdict}
-use Rattle.obd_cli.specs.declared.certificate.Verdict.TheVariants.{Chain, Functional}
+use Rattle.curve_paths.specs.declared.named.NamedPath.{NamedPath}
+use Rattle.curve_paths.specs.declared.named.NamedTwist.{NamedTwist}
+use Rattle.witness_check.specs.declared.certificate.Certificate.{Certificate}
 use Rattle.obd_cli.specs.declared.complex.Complex.{Complex}
-use Rattle.obd_cli.specs.declared.complex.Outcome.{Outcome}
 
 -- the first drawing of a book without slides and twists: the identity drawing of its polygon
 abbrev pub first_drawing : List (List Label) → Drawing
@@ -56,25 +52,12 @@ seam_names page = names_of page (joined page).seams
 abbrev pub rows_of : List Column → List (List ℕ)
 rows_of columns = map (λ column. column.rows) columns
 
--- a verdict line: a chain of columns, or a functional by its rows
-abbrev pub found : Verdict → Found
-found (Chain columns) = chain columns
-found (Functional rows) = functional rows
-
--- the pivots, the rank and the verdict are those of the columns, with the last row as contact row
-pub record Concludes (columns : List (List ℕ)) (pivots : List Pivot) (rank : ℕ) (verdict : Verdict) : Type 0 where
-  pub outcome : IsOutcome (length columns) columns (map (λ pivot. pivot.column) pivots) (map (λ pivot. pivot.row) pivots) (found verdict)
-  pub rank_is : IsRank (length columns) columns rank
-
-abbrev pub IsOutcomeOf : List (List ℕ) → Outcome → Type 0
-IsOutcomeOf columns outcome = Concludes columns outcome.pivots outcome.rank outcome.verdict
-
 -- the number of generators of a drawing, of which there is one at least, and the outcome of its columns
 pub record IsComplexOf (d : Drawing) (complex : Complex) : Type 0 where
   pub count : complex.generators ≡ length (generators d)
   pub least : 1 ≤ complex.generators
   pub most : complex.generators ≤ 256
-  pub concludes : IsOutcomeOf (columns d) complex.outcome
+  pub concludes : IsOutcomeOf (length (columns d)) (columns d) complex.outcome
   pub rank : complex.outcome.rank ≤ complex.generators
 
 -- the book has no slide and no twist, and every line is that of the book
@@ -102,7 +85,7 @@ pub record BelongsTo (book : Book) (c : Certificate) : Type 0 where
   pub contact_last : c.contact + 1 ≡ c.generators
   pub contact_column : column_at (book_columns book.page) c.contact ≡ []
   -- what the elimination finds, and the number that is left
-  pub concludes : Concludes (book_columns book.page) c.pivots c.rank c.verdict
+  pub concludes : Concludes (length (book_columns book.page)) (book_columns book.page) c.pivots c.rank c.verdict
   pub homology : c.homology ≡ pos c.generators -ℤ pos (2 * c.rank)
 
 -- every field is made from the page, the curves, the numbers of the seams, its polygon and that polygon's identity drawing
@@ -121,5 +104,5 @@ pub record IsMade (page : List (List Label)) (curves : List NamedPath) (seams : 
   pub generators_are : c.generators ≡ length (generators (identity polygon))
   pub contact : c.contact + 1 ≡ c.generators
   pub points : c.points ≡ contact_generator (identity polygon)
-  pub concludes : Concludes (columns (identity polygon)) c.pivots c.rank c.verdict
+  pub concludes : Concludes (length (columns (identity polygon))) (columns (identity polygon)) c.pivots c.rank c.verdict
   pub homology : c.homology ≡ pos c.generators -ℤ pos (2 * c.rank)

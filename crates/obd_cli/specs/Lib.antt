@@ -1,6 +1,4 @@
 pub mod Belongs
-pub mod Line
 pub mod Refused
 pub mod Run
-pub mod Text
 pub mod Words

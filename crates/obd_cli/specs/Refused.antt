@@ -2,7 +2,7 @@
 use Rattle.std.specs.Prelude.{ℕ, List, [], ◌∷◌, ◌++◌, codes, decimal, map}
 use Rattle.curve_paths.specs.declared.refusal.CurveRefusal.{CurveRefusal}
 use Rattle.curve_paths.specs.declared.refusal.CurveRefusal.TheVariants as curve
-use Rattle.obd_cli.specs.Line.{line}
+use Rattle.witness_check.specs.Line.{line}
 use Rattle.obd_doc.specs.declared.refusal.DocRefusal.{DocRefusal}
 use Rattle.obd_doc.specs.declared.refusal.DocRefusal.TheVariants as doc
 use Rattle.obd_doc.specs.declared.refusal.FieldName.{FieldName}

@@ -9,16 +9,19 @@ use Rattle.obd_doc.specs.declared.book.Book.{Book}
 use Rattle.obd_doc.specs.declared.refusal.DocRefusal.{DocRefusal}
 use Rattle.obd_cli.specs.Belongs.{BelongsTo}
 use Rattle.obd_cli.specs.Refused.{doc_line, refused_line}
-use Rattle.obd_cli.specs.Text.{certificate_text}
+use Rattle.witness_check.specs.Text.{certificate_text}
 use Rattle.obd_cli.specs.Words.{book_words, long_line, words_text}
-use Rattle.obd_cli.specs.declared.certificate.Certificate.{Certificate}
+use Rattle.witness_check.specs.declared.certificate.Certificate.{Certificate}
 use Rattle.obd_cli.specs.declared.status.Answer.{Answer}
 use Rattle.obd_cli.specs.declared.status.Command.{Command}
 use Rattle.obd_cli.specs.declared.status.Command.TheVariants as command
 use Rattle.obd_cli.specs.declared.status.Status.{Status}
 use Rattle.obd_cli.specs.declared.status.Status.TheVariants as status
 use Rattle.obd_cli.specs.declared.words.TooLong.{TooLong}
-use Rattle.obd_cli.specs.declared.top.TheConstants.{DOCUMENT_LIMIT}
+
+-- the greatest number of bytes of a document
+abbrev pub most_bytes : ℕ
+most_bytes = 1048576
 
 -- the command that the words are, if they are one
 abbrev pub command_of : List (List ℕ) → Option Command
@@ -37,7 +40,7 @@ abbrev pub refused_with : List ℕ → Answer
 refused_with text = record { status = status.Refused; text = text }
 
 abbrev pub too_long : Answer
-too_long = refused_with (refused_line 1 (codes "InputLong") [] (DOCUMENT_LIMIT ∷ []))
+too_long = refused_with (refused_line 1 (codes "InputLong") [] (most_bytes ∷ []))
 
 -- what `decide` doesn't take, and `page` takes
 abbrev pub not_decided : Command → Book → Option (List ℕ)
@@ -88,14 +91,14 @@ pub record AnswersAll (command : Command) (left now_left : Option (List ℕ)) (a
   pub bytes : List ℕ
   pub gave : Consumes left now_left bytes
   pub ended : IsAtEnd now_left
-  pub within : length bytes ≤ DOCUMENT_LIMIT
+  pub within : length bytes ≤ most_bytes
   pub answers : AnswersBytes command bytes answer
 
 -- one byte more than the limit was read
 pub record AnswersLong (left now_left : Option (List ℕ)) (answer : Answer) : Type 0 where
   pub bytes : List ℕ
   pub gave : Consumes left now_left bytes
-  pub size : length bytes ≡ DOCUMENT_LIMIT + 1
+  pub size : length bytes ≡ most_bytes + 1
   pub answers : answer ≡ too_long
 
 -- what is owed: the usage line for words that are no command, else the answer to what was read
@@ -169,4 +172,4 @@ book_status command.Page book None = (page_answer book (book_words book)).status
 -- the status of the answer to these bytes
 abbrev pub status_owed : Command → List ℕ → Status
 status_owed command bytes =
-    if nat_lt DOCUMENT_LIMIT (length bytes) then status.Refused else option_map_or (λ book. book_status command book (not_built command book)) (book_read bytes) status.Refused
+    if nat_lt most_bytes (length bytes) then status.Refused else option_map_or (λ book. book_status command book (not_built command book)) (book_read bytes) status.Refused

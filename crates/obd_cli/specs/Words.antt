@@ -11,7 +11,7 @@ use Rattle.twist_words.specs.Powers.{by_power}
 use Rattle.obd_doc.specs.declared.book.Book.{Book}
 use Rattle.obd_doc.specs.declared.book.Twist.{Twist}
 use Rattle.obd_cli.specs.Belongs.{seam_names}
-use Rattle.obd_cli.specs.Line.{line, row_lines}
+use Rattle.witness_check.specs.Line.{line, row_lines}
 use Rattle.obd_cli.specs.Refused.{refused_line}
 use Rattle.obd_cli.specs.declared.words.TooLong.{TooLong}
 

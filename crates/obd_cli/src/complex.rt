@@ -6,10 +6,11 @@ ghost use Rattle.obd_base.specs.Lists.{below};
 ghost use Rattle.page_surface.specs.Drawing.{identity};
 ghost use Rattle.page_surface.specs.Polygon.{IsPolygon, arc_count};
 ghost use Rattle.drawing.specs.Points.{generators};
-ghost use Rattle.obd_cli.specs.Belongs.{IsComplexOf, IsOutcomeOf, rows_of};
+ghost use Rattle.mod2_rank.specs.Linear.{IsOutcomeOf};
+ghost use Rattle.obd_cli.specs.Belongs.{IsComplexOf, rows_of};
 
-use crate::certificate::{Pivot, Verdict};
 use hkm_diagram::Diagram;
+use mod2_rank::{Outcome, Verdict};
 use obd_base::{ArcNo, Column, Items, NoMemory};
 use std::alloc::Global;
 
@@ -105,21 +106,13 @@ fn one_row(alloc: Global, row: u32) -> Result<Items<u32>, NoMemory>
     Ok(rows)
 }
 
-// What the elimination of the columns finds.
-#[derive(Drop)]
-pub(crate) struct Outcome {
-    pub(crate) pivots: Items<Pivot>,
-    pub(crate) rank: u32,
-    pub(crate) verdict: Verdict,
-}
-
 // The outcome where all columns are empty: there is no pivot, and the functional that is one on the contact row
 // alone, which is the last, is even on every column.
 fn eliminate(alloc: Global, columns: &[Column]) -> Result<Outcome, NoMemory>
     requires empty { All (λ column. column.rows ≡ []) columns.now }
     requires some { 0 < length columns.now }
     requires few { length columns.now < 2 ^ 32 }
-    ensures concludes { IfOk result (IsOutcomeOf (rows_of columns.now)) }
+    ensures concludes { IfOk result (IsOutcomeOf (length columns.now) (rows_of columns.now)) }
     ensures rank { IfOk result (λ outcome. outcome.rank ≤ length columns.now) }
 {
     let contact = columns.len() as u32 - 1;

@@ -8,15 +8,15 @@ ghost use Rattle.page_surface.specs.Drawing.{strand_exits};
 ghost use Rattle.drawing.specs.Points.{crossings_of};
 ghost use Rattle.obd_cli.specs.Belongs.{BelongsTo, IsMade, names_of, paths_of};
 
-use crate::certificate::Certificate;
 use crate::complex::{Complex, complex_of};
 use arc_basis::join;
-use curve_paths::{copied_path, page_names};
+use curve_paths::{NamedPath, copied_path, page_names};
 use hkm_diagram::{Diagram, first};
 use obd_base::{ArcNo, Exit, GenNo, Items, LabelNo, Name, NoMemory, SideNo, StrandNo};
-use obd_doc::{Book, NamedCurve, NamedPath};
+use obd_doc::{Book, NamedCurve};
 use page_surface::{Page, Polygon};
 use std::alloc::Global;
+use witness_check::Certificate;
 
 // The curves of a book by name and crossings.
 fn named_paths(alloc: Global, curves: &[NamedCurve]) -> Result<Items<NamedPath>, NoMemory>

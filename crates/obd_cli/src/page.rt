@@ -6,7 +6,6 @@ ghost use Rattle.obd_cli.specs.Run.{has_text, page_answer, refused_with};
 ghost use Rattle.obd_cli.specs.Words.{book_words as words_of_book, lines_of, long_line, words_text};
 
 use crate::identity::{basis, label_names};
-use crate::line::{put_line, put_numbered, put_rows};
 use crate::refused::put_refused;
 use crate::status::{Answer, Status};
 use crate::words::{TooLong, Wordless, book_words};
@@ -14,6 +13,7 @@ use arc_basis::{Basis, join};
 use obd_base::{ArcNo, Items, Name, NoMemory, SideNo, Text};
 use obd_doc::Book;
 use std::alloc::Global;
+use witness_check::{put_line, put_numbered, put_rows};
 
 // Appends the lines of the seams, the basis and the words.
 fn put_page(

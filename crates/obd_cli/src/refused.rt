@@ -1,6 +1,6 @@
 // The lines of refusals.
 ghost use Rattle.std.specs.Prelude.{◌≡◌, ◌++◌, ◌∷◌, decimal, map, OnOk};
-ghost use Rattle.obd_cli.specs.Line.{spaced};
+ghost use Rattle.witness_check.specs.Line.{spaced};
 ghost use Rattle.obd_cli.specs.Refused.{curve_line, doc_line, field_word, page_line, refused_line};
 
 use curve_paths::CurveRefusal;
@@ -31,7 +31,7 @@ fn put_numbers(text: &mut Text, numbers: &[u64]) -> Result<(), NoMemory>
 }
 
 // Appends the line of a refusal by its code and name, with the words and the numbers that it keeps.
-#[tactic(auto, unfolding(crate::specs::Line::line))]
+#[tactic(auto, unfolding(witness_check::specs::Line::line))]
 pub(crate) fn put_refused(
     text: &mut Text,
     code: u64,

@@ -8,7 +8,6 @@ ghost use Rattle.obd_cli.specs.Refused.{doc_line, refused_line};
 ghost use Rattle.obd_cli.specs.Run.{AnswersAll, AnswersBook, AnswersBytes, AnswersLong, Certifies, CutShort, Finished, IsFault, Owes, Told, command_of, has_text, not_built, not_decided, refused_with, status_owed, too_long, usage};
 ghost use Rattle.obd_cli.specs.declared.status.Command.{Command as Which};
 
-use crate::certificate::print;
 use crate::identity::certify;
 use crate::page::paged;
 use crate::refused::{put_doc_refusal, put_refused};
@@ -16,6 +15,7 @@ use crate::status::{Answer, Command, Status};
 use obd_base::{NoMemory, ReadRefusal, Sink, Source, Text, WriteFault, read_all, write_all_of};
 use obd_doc::{Book, DocRefusal, read};
 use std::alloc::Global;
+use witness_check::print;
 
 /// The greatest number of bytes of a document.
 pub const DOCUMENT_LIMIT: usize = 1_048_576;

@@ -7,8 +7,8 @@ use Rattle.page_surface.specs.Page.{refusal_of as page_refusal}
 use Rattle.obd_doc.specs.Document.{all_curve_rules, book_of, book_rules, curve_on, first_of, names_of, twist_about, twist_rule}
 use Rattle.obd_doc.specs.declared.book.NamedCurve.{NamedCurve}
 use Rattle.obd_doc.specs.declared.book.Twist.{Twist}
-use Rattle.obd_doc.specs.declared.entries.NamedPath.{NamedPath}
-use Rattle.obd_doc.specs.declared.entries.NamedTwist.{NamedTwist}
+use Rattle.curve_paths.specs.declared.named.NamedPath.{NamedPath}
+use Rattle.curve_paths.specs.declared.named.NamedTwist.{NamedTwist}
 use Rattle.obd_doc.specs.declared.fields.Fields.{Fields}
 use Rattle.obd_doc.specs.declared.refusal.DocRefusal.{DocRefusal}
 use Rattle.obd_doc.specs.declared.refusal.DocRefusal.TheVariants.{Page as NoPage, UnknownCurve}

@@ -4,7 +4,7 @@ use Rattle.std.proofs.lemmas.List.{drop_all, drop_more, map-append, take_more, t
 use Rattle.page_surface.specs.Labels.{Label}
 use Rattle.obd_doc.specs.Document.{all_curve_rules, curve_on, curve_rules, first_of, names_of}
 use Rattle.obd_doc.specs.declared.book.NamedCurve.{NamedCurve}
-use Rattle.obd_doc.specs.declared.entries.NamedPath.{NamedPath}
+use Rattle.curve_paths.specs.declared.named.NamedPath.{NamedPath}
 use Rattle.obd_doc.specs.declared.refusal.DocRefusal.{DocRefusal}
 use Rattle.obd_doc.proofs.Rules.{skip, stop}
 

@@ -15,7 +15,7 @@ use Rattle.obd_doc.specs.Document.{IsBook, all_curve_rules, book_of, book_read, 
 use Rattle.obd_doc.specs.Values.{value_of}
 use Rattle.obd_doc.specs.declared.book.Book.{Book}
 use Rattle.obd_doc.specs.declared.book.NamedCurve.{NamedCurve}
-use Rattle.obd_doc.specs.declared.entries.NamedPath.{NamedPath}
+use Rattle.curve_paths.specs.declared.named.NamedPath.{NamedPath}
 use Rattle.obd_doc.specs.declared.fields.Fields.{Fields}
 use Rattle.obd_doc.specs.declared.refusal.DocRefusal.{DocRefusal}
 use Rattle.obd_doc.specs.declared.refusal.DocRefusal.TheVariants.{Json, Page as NoPage}

@@ -10,7 +10,7 @@ use Rattle.obd_doc.specs.Document.{curves, first_of, said_or, wanted, when}
 use Rattle.obd_doc.specs.Kinds.{cross, named_path}
 use Rattle.obd_doc.specs.Reading.{array_of}
 use Rattle.obd_doc.specs.Values.{element, elements, is_whole_in, whole}
-use Rattle.obd_doc.specs.declared.entries.NamedPath.{NamedPath}
+use Rattle.curve_paths.specs.declared.named.NamedPath.{NamedPath}
 use Rattle.obd_doc.specs.declared.refusal.DocRefusal.{DocRefusal}
 use Rattle.obd_doc.specs.declared.refusal.DocRefusal.TheVariants.{Field, Number}
 use Rattle.obd_doc.specs.declared.refusal.FieldName.TheVariants as field

@@ -7,7 +7,7 @@ use Rattle.std.proofs.lemmas.Option.{same_Some}
 use Rattle.std.proofs.lemmas.List.{map-append, take_more, take_all}
 use Rattle.obd_doc.specs.Document.{twist_about}
 use Rattle.obd_doc.specs.declared.book.Twist.{Twist}
-use Rattle.obd_doc.specs.declared.entries.NamedTwist.{NamedTwist}
+use Rattle.curve_paths.specs.declared.named.NamedTwist.{NamedTwist}
 
 -- the twist names none of these curves
 abbrev pub is_unknown : List (List ℕ) → NamedTwist → Bool

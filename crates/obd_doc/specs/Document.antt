@@ -14,9 +14,9 @@ use Rattle.obd_doc.specs.Values.{field_names, value_of}
 use Rattle.obd_doc.specs.declared.book.Book.{Book}
 use Rattle.obd_doc.specs.declared.book.NamedCurve.{NamedCurve}
 use Rattle.obd_doc.specs.declared.book.Twist.{Twist}
-use Rattle.obd_doc.specs.declared.entries.Limits.{Limits}
-use Rattle.obd_doc.specs.declared.entries.NamedPath.{NamedPath}
-use Rattle.obd_doc.specs.declared.entries.NamedTwist.{NamedTwist}
+use Rattle.obd_doc.specs.declared.limits.Limits.{Limits}
+use Rattle.curve_paths.specs.declared.named.NamedPath.{NamedPath}
+use Rattle.curve_paths.specs.declared.named.NamedTwist.{NamedTwist}
 use Rattle.obd_doc.specs.declared.fields.Fields.{Fields}
 use Rattle.obd_doc.specs.declared.reading.Unread.{Unread}
 use Rattle.obd_doc.specs.declared.reading.Unread.TheVariants as unread

@@ -7,9 +7,9 @@ use Rattle.serde_json.specs.Find.{as_object, get}
 use Rattle.obd_doc.specs.Reading.{Kind, array_of}
 use Rattle.obd_doc.specs.Values.{element, field_names, integer, is_array_of, is_name_text, is_number, is_whole_in, text_of, whole_or_zero}
 use Rattle.curve_paths.specs.declared.path.Cross.{Cross}
-use Rattle.obd_doc.specs.declared.entries.NamedPath.{NamedPath}
-use Rattle.obd_doc.specs.declared.entries.NamedTwist.{NamedTwist}
-use Rattle.obd_doc.specs.declared.entries.Limits.{Limits}
+use Rattle.curve_paths.specs.declared.named.NamedPath.{NamedPath}
+use Rattle.curve_paths.specs.declared.named.NamedTwist.{NamedTwist}
+use Rattle.obd_doc.specs.declared.limits.Limits.{Limits}
 
 -- names
 abbrev pub name : Kind (List ℕ)

@@ -1,6 +1,6 @@
 // The open book that a document gives.
 
-use crate::entries::Limits;
+use crate::limits::Limits;
 use curve_paths::{Cross, PageCurve};
 use obd_base::{Items, Name, SideNo};
 use page_surface::Page;

@@ -8,10 +8,11 @@ ghost use Rattle.obd_doc.specs.Settled.{Settles, SettlesField};
 ghost use Rattle.obd_doc.specs.declared.refusal.FieldName.TheVariants as name;
 
 use crate::DocRefusal;
-use crate::entries::{Limits, NamedPath, NamedTwist};
 use crate::kinds::{GREATEST_LIMIT, whole_from};
+use crate::limits::Limits;
 use crate::reading::{Readable, Unread};
 use crate::refusal::FieldName;
+use curve_paths::{NamedPath, NamedTwist};
 use obd_base::{Items, Name, SideNo};
 use serde_json::Value;
 use std::alloc::Global;

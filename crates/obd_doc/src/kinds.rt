@@ -8,10 +8,10 @@ ghost use Rattle.obd_doc.specs.Kinds.{cross, is_limit, limit, limits, name, name
 ghost use Rattle.obd_doc.specs.Reading.{Reads};
 ghost use Rattle.obd_doc.specs.Values.{elements, field_names, is_array_of, is_number};
 
-use crate::entries::{Limits, NamedPath, NamedTwist};
+use crate::limits::Limits;
 use crate::reading::{Readable, Unread};
 use crate::values::name_text;
-use curve_paths::Cross;
+use curve_paths::{Cross, NamedPath, NamedTwist};
 use obd_base::{Items, Name, SideNo};
 use serde_json::Value;
 use std::alloc::Global;

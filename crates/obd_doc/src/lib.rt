@@ -7,14 +7,14 @@
 
 mod book;
 mod document;
-mod entries;
 mod fields;
 mod kinds;
+mod limits;
 mod reading;
 mod refusal;
 mod values;
 
 pub use book::{Book, NamedCurve, Twist};
 pub use document::read;
-pub use entries::{Limits, NamedPath, NamedTwist};
+pub use limits::Limits;
 pub use refusal::{DocRefusal, FieldName};

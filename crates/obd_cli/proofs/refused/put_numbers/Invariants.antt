@@ -1,5 +1,5 @@
 use Rattle.std.proofs.Common.{◌≡◌, ◌++◌, decimal, map, take}
-use Rattle.obd_cli.specs.Line.{spaced}
+use Rattle.witness_check.specs.Line.{spaced}
 use Rattle.obd_cli.proofs.refused.put_numbers.Given as goal
 
 -- the numbers so far were appended

@@ -1,5 +1,5 @@
 use Rattle.std.proofs.Common.{◌≡◌, ◌++◌, map, take}
-use Rattle.obd_cli.specs.Line.{spaced}
+use Rattle.witness_check.specs.Line.{spaced}
 use Rattle.obd_cli.proofs.refused.put_texts.Given as goal
 
 -- the words so far were appended

@@ -1,10 +1,16 @@
 -- Rows with their numbers, and the lines of some rows.
-use Rattle.std.proofs.Common.{◌≡◌, ℕ, ◌+◌, List, [], ◌∷◌, ◌++◌, map, length, decimal, refl, sym, ◌∙◌, ap, arith, zero-add, ◌<◌, take, get_or, length-take-le, append_assoc}
+use Rattle.std.proofs.Common.{◌≡◌, ℕ, suc, add-zero, ◌+◌, List, [], ◌∷◌, ◌++◌, map, length, decimal, refl, sym, ◌∙◌, ap, arith, zero-add, ◌<◌, take, get_or, length-take-le, append_assoc}
 use Rattle.std.specs.List.{enumerate_from, flat_map}
 use Rattle.std.proofs.lemmas.List.{append-nil, take_more}
 use Rattle.std.proofs.lemmas.List.Concat.{flat_map-append}
-use Rattle.twist_words.proofs.Numbered.{enumerated_more}
-use Rattle.obd_cli.specs.Line.{line, lines, row_lines}
+use Rattle.witness_check.specs.Line.{line, lines, row_lines}
+
+-- one more item, with its number
+enumerated_more : {A : Type 0} (n : ℕ) (xs : List A) (x : A) → enumerate_from n (xs ++ x ∷ []) ≡ enumerate_from n xs ++ (n + length xs, x) ∷ []
+enumerated_more n [] x = ap (λ (k : ℕ). (k, x) ∷ []) (sym (add-zero n))
+enumerated_more n (y ∷ xs) x =
+    let moved : n + 1 + length xs ≡ n + suc (length xs) = omega arith in
+    ap (λ rest. (n, y) ∷ rest) (enumerated_more (n + 1) xs x ∙ ap (λ (k : ℕ). enumerate_from (n + 1) xs ++ (k, x) ∷ []) moved)
 
 -- the lines of one row more
 pub row_lines_more : {A : Type 0} (kind : List ℕ) (word : A → List ℕ) (rows : List (List A)) (row : List A)

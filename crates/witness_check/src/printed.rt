@@ -1,88 +1,19 @@
-// The certificate, version 1, field by field, and its text.
+// The text of a certificate, line by line.
 ghost use Rattle.std.specs.Prelude.{◌≡◌, ◌++◌, List, ℕ, [], ◌∷◌, decimal, map, OnOk, IfOk, codes, length};
 ghost use Rattle.std.specs.Fmt.{signed_decimal};
-ghost use Rattle.obd_cli.specs.Line.{line, lines, spaced};
-ghost use Rattle.obd_cli.specs.Text.{certificate_text, cross_text, drawing_text, finger_words, monodromy_text, outcome_text, page_text, path_words, pivot_words, polygon_words, slide_words, twist_words, verdict_line};
+ghost use Rattle.witness_check.specs.Line.{line, lines, spaced};
+ghost use Rattle.witness_check.specs.Text.{certificate_text, cross_text, drawing_text, finger_words, monodromy_text, outcome_text, page_text, path_words, pivot_words, polygon_words, slide_words, twist_words, verdict_line};
 
+use crate::certificate::Certificate;
 use crate::line::{
     Entry, Word, put_count, put_line, put_list, put_number, put_numbered, put_rows, put_signed,
     put_words,
 };
-use curve_paths::Cross;
-use obd_base::{ArcNo, Exit, GenNo, Items, Name, NoMemory, SideNo, StrandNo, Text};
-use obd_doc::{NamedPath, NamedTwist};
+use curve_paths::{Cross, NamedPath, NamedTwist};
+use drawing::Finger;
+use mod2_rank::{Pivot, Verdict};
+use obd_base::{Items, Name, NoMemory, SideNo, Text};
 use std::alloc::Global;
-
-/// A finger move: the chord of a strand that is pushed, and the segment of a side into which it goes.
-#[derive(Clone, Copy, Debug, PartialEq, Eq)]
-pub struct Finger {
-    pub strand: StrandNo,
-    pub chord: u32,
-    pub side: SideNo,
-    pub segment: u32,
-}
-
-/// A pivot of the elimination: a column, and the least row of what is left of it.
-#[derive(Clone, Copy, Debug, PartialEq, Eq)]
-pub struct Pivot {
-    pub column: u32,
-    pub row: u32,
-}
-
-/// Why the contact class is zero or isn't.
-#[derive(Drop)]
-pub enum Verdict {
-    /// The columns whose sum is the contact generator alone: the class is zero.
-    Chain(Items<u32>),
-    /// The rows of a functional that is one on the contact generator and even on each column: it is nonzero.
-    Functional(Items<u32>),
-}
-
-/// The fields of a certificate, in the order of its lines.
-pub struct Certificate {
-    pub version: u32,
-    pub polygons: Items<Items<Name>>,
-    pub curves: Items<NamedPath>,
-    pub slides: Items<SideNo>,
-    pub twists: Items<NamedTwist>,
-    pub seams: Items<Name>,
-    pub basis: Items<ArcNo>,
-    pub strands: Items<Items<Exit>>,
-    pub fingers: Items<Finger>,
-    pub finals: Items<Items<Exit>>,
-    pub generators: u32,
-    pub contact: GenNo,
-    pub points: Items<u32>,
-    pub pivots: Items<Pivot>,
-    pub rank: u32,
-    pub homology: i32,
-    pub verdict: Verdict,
-}
-
-// By hand, so that a caller's proof holds one call and not the drop of each field.
-impl Drop for Certificate {
-    fn drop(self) {
-        let Certificate {
-            version: _version,
-            polygons: _polygons,
-            curves: _curves,
-            slides: _slides,
-            twists: _twists,
-            seams: _seams,
-            basis: _basis,
-            strands: _strands,
-            fingers: _fingers,
-            finals: _finals,
-            generators: _generators,
-            contact: _contact,
-            points: _points,
-            pivots: _pivots,
-            rank: _rank,
-            homology: _homology,
-            verdict: _verdict,
-        } = self;
-    }
-}
 
 impl Word for Cross {
     ghost word = { cross_text };
@@ -218,7 +149,7 @@ fn put_outcome(text: &mut Text, certificate: &Certificate) -> Result<(), NoMemor
 }
 
 /// The text of a certificate: one line after another. Linear in the text.
-pub(crate) fn print(alloc: Global, certificate: &Certificate) -> Result<Text, NoMemory>
+pub fn print(alloc: Global, certificate: &Certificate) -> Result<Text, NoMemory>
     ensures { IfOk result (λ text. text ≡ certificate_text certificate.now) }
 {
     let mut text = Text::new(alloc);

@@ -1,6 +1,6 @@
-// The entries of a document: curves, twists and limits.
+// Curves and entries of the twist word by name.
 
-use curve_paths::Cross;
+use crate::Cross;
 use obd_base::{Items, Name};
 
 /// A curve by its name and its crossings in order.
@@ -29,16 +29,6 @@ pub struct NamedTwist {
 // By hand, so that a caller's proof holds one call and not the drop of each field.
 impl Drop for NamedTwist {
     fn drop(self) {
-        let NamedTwist {
-            name: _name,
-            power: _power,
-        } = self;
+        let NamedTwist { name: _name, .. } = self;
     }
-}
-
-/// The greatest numbers of finger moves and of generators that a run may come to.
-#[derive(Clone, Copy, Debug, PartialEq, Eq)]
-pub struct Limits {
-    pub moves: u32,
-    pub generators: u32,
 }

@@ -3,14 +3,14 @@ use Rattle.std.specs.Prelude.{ℕ, List, [], ◌∷◌, ◌++◌, codes, decimal
 use Rattle.std.specs.Fmt.{signed_decimal}
 use Rattle.curve_paths.specs.declared.path.Cross.{Cross}
 use Rattle.obd_base.specs.declared.points.Exit.{Exit}
-use Rattle.obd_cli.specs.Line.{exit_text, line, listed, row_lines}
-use Rattle.obd_cli.specs.declared.certificate.Certificate.{Certificate}
-use Rattle.obd_cli.specs.declared.certificate.Finger.{Finger}
-use Rattle.obd_doc.specs.declared.entries.NamedPath.{NamedPath}
-use Rattle.obd_doc.specs.declared.entries.NamedTwist.{NamedTwist}
-use Rattle.obd_cli.specs.declared.certificate.Pivot.{Pivot}
-use Rattle.obd_cli.specs.declared.certificate.Verdict.{Verdict}
-use Rattle.obd_cli.specs.declared.certificate.Verdict.TheVariants.{Chain, Functional}
+use Rattle.witness_check.specs.Line.{exit_text, line, listed, row_lines}
+use Rattle.witness_check.specs.declared.certificate.Certificate.{Certificate}
+use Rattle.drawing.specs.declared.finger.Finger.{Finger}
+use Rattle.curve_paths.specs.declared.named.NamedPath.{NamedPath}
+use Rattle.curve_paths.specs.declared.named.NamedTwist.{NamedTwist}
+use Rattle.mod2_rank.specs.declared.outcome.Pivot.{Pivot}
+use Rattle.mod2_rank.specs.declared.outcome.Verdict.{Verdict}
+use Rattle.mod2_rank.specs.declared.outcome.Verdict.TheVariants.{Chain, Functional}
 
 -- LABEL:OCC:PLACE
 abbrev pub cross_text : Cross → List ℕ

@@ -1,12 +1,12 @@
 // Lines of words. A line is its kind, further words behind one space each, and a line feed.
 ghost use Rattle.std.specs.Prelude.{◌≡◌, ◌++◌, List, ℕ, [], ◌∷◌, decimal, map, OnOk};
 ghost use Rattle.std.specs.Fmt.{signed_decimal};
-ghost use Rattle.obd_cli.specs.Line.{exit_text, line, lines, listed, row_lines, spaced};
+ghost use Rattle.witness_check.specs.Line.{exit_text, line, lines, listed, row_lines, spaced};
 
 use obd_base::{ArcNo, Exit, Items, Name, NoMemory, SideNo, Text};
 
 /// What stands as one word of a line.
-pub(crate) trait Word {
+pub trait Word {
     /// The word's text.
     ghost word: { Self → List ℕ };
 
@@ -68,9 +68,9 @@ pub(crate) fn put_words<T: Word>(text: &mut Text, words: &[T]) -> Result<(), NoM
     Ok(())
 }
 
-// Appends a line of a kind with these words.
+/// Appends a line of a kind with these words. Linear in the text that is put, as are the calls below.
 #[tactic(auto, unfolding(crate::specs::Line::line))]
-pub(crate) fn put_line<T: Word>(text: &mut Text, kind: &str, words: &[T]) -> Result<(), NoMemory>
+pub fn put_line<T: Word>(text: &mut Text, kind: &str, words: &[T]) -> Result<(), NoMemory>
     ensures { OnOk result (text.new ≡ text.old ++ line kind.now (map T.word words.now)) }
 {
     text.put(kind)?;
@@ -145,9 +145,9 @@ pub(crate) fn put_signed(text: &mut Text, kind: &str, number: i32) -> Result<(),
     text.put("\n")
 }
 
-// Appends a line with a number and then words.
+/// Appends a line with a number and then words.
 #[tactic(auto, unfolding(crate::specs::Line::line))]
-pub(crate) fn put_numbered<T: Word>(
+pub fn put_numbered<T: Word>(
     text: &mut Text,
     kind: &str,
     number: u64,
@@ -162,9 +162,9 @@ pub(crate) fn put_numbered<T: Word>(
     text.put("\n")
 }
 
-// Appends a line of a kind for each row, with its number and its words.
+/// Appends a line of a kind for each row, with its number, counted from 0, and its words.
 #[tactic(auto, unfolding(crate::specs::Line::lines))]
-pub(crate) fn put_rows<T: Word>(
+pub fn put_rows<T: Word>(
     text: &mut Text,
     kind: &str,
     rows: &[Items<T>],

@@ -1,6 +1,6 @@
 use Rattle.std.proofs.Common.{◌≡◌, ◌++◌, take}
-use Rattle.obd_cli.specs.Line.{row_lines}
-use Rattle.obd_cli.proofs.line.put_rows.Given as goal
+use Rattle.witness_check.specs.Line.{row_lines}
+use Rattle.witness_check.proofs.line.put_rows.Given as goal
 
 -- the rows so far were appended
 abbrev pub invariant-loop-number : goal.invariant-loop-number

@@ -1,7 +1,7 @@
 use Rattle.std.proofs.Common.{◌≡◌, ◌++◌, codes, take}
-use Rattle.obd_cli.specs.Line.{lines}
-use Rattle.obd_cli.specs.Text.{polygon_words}
-use Rattle.obd_cli.proofs.certificate.put_polygons.Given as goal
+use Rattle.witness_check.specs.Line.{lines}
+use Rattle.witness_check.specs.Text.{polygon_words}
+use Rattle.witness_check.proofs.printed.put_polygons.Given as goal
 
 -- the polygons so far were appended
 abbrev pub invariant-loop-labels : goal.invariant-loop-labels

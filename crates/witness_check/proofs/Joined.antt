@@ -1,6 +1,6 @@
 -- Texts that grow at their end.
 use Rattle.std.proofs.Common.{◌≡◌, ℕ, List, [], ◌∷◌, ◌++◌, length, decimal, ◌∙◌, ap, append_assoc, Result, Ok, Err, OnOk, subst}
-use Rattle.obd_cli.specs.Line.{line, lines, listed}
+use Rattle.witness_check.specs.Line.{line, lines, listed}
 
 -- what follows on success
 pub on_success : {T E : Type 0} {P Q : Type 0} (result : Result T E) → (P → Q) → OnOk result P → OnOk result Q

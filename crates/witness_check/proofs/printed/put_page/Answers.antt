@@ -1,7 +1,7 @@
 use Rattle.std.proofs.Common.{codes}
-use Rattle.obd_cli.specs.Text.{polygon_words}
-use Rattle.obd_cli.proofs.Joined.{on_success, listed_after}
-use Rattle.obd_cli.proofs.certificate.put_page.Goals as goal
+use Rattle.witness_check.specs.Text.{polygon_words}
+use Rattle.witness_check.proofs.Joined.{on_success, listed_after}
+use Rattle.witness_check.proofs.printed.put_page.Goals as goal
 
 pub returns : goal.returns
 returns c =

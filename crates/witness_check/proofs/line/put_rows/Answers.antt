@@ -1,6 +1,6 @@
 use Rattle.std.proofs.Common.{arith}
-use Rattle.obd_cli.proofs.Numbered.{row_lines_next}
-use Rattle.obd_cli.proofs.line.put_rows.Goals as goal
+use Rattle.witness_check.proofs.Numbered.{row_lines_next}
+use Rattle.witness_check.proofs.line.put_rows.Goals as goal
 
 pub loop-number-preserved : goal.loop-number-preserved
 loop-number-preserved g c =

@@ -1,6 +1,6 @@
 use Rattle.std.proofs.Common.{◌≡◌, ◌++◌, map, take}
-use Rattle.obd_cli.specs.Line.{spaced}
-use Rattle.obd_cli.proofs.line.put_words.Given as goal
+use Rattle.witness_check.specs.Line.{spaced}
+use Rattle.witness_check.proofs.line.put_words.Given as goal
 
 -- the words so far were appended
 abbrev pub invariant-loop-word : goal.invariant-loop-word

@@ -1,6 +1,6 @@
 use Rattle.std.proofs.Common.{◌≡◌, ◌++◌, take}
-use Rattle.obd_cli.specs.Line.{lines}
-use Rattle.obd_cli.proofs.line.put_entries.Given as goal
+use Rattle.witness_check.specs.Line.{lines}
+use Rattle.witness_check.proofs.line.put_entries.Given as goal
 
 -- the lines so far were appended
 abbrev pub invariant-loop-entry : goal.invariant-loop-entry

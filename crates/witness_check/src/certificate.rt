@@ -1,0 +1,59 @@
+// The certificate, version 1, field by field.
+
+use curve_paths::{NamedPath, NamedTwist};
+use drawing::Finger;
+use mod2_rank::{Pivot, Verdict};
+use obd_base::{ArcNo, Exit, GenNo, Items, Name, SideNo};
+
+/// The fields of a certificate, in the order of its lines.
+pub struct Certificate {
+    /// The version of the form, 1.
+    pub version: u32,
+    /// The labels of the page's polygons.
+    pub polygons: Items<Items<Name>>,
+    pub curves: Items<NamedPath>,
+    pub slides: Items<SideNo>,
+    /// The twist word, whose first entry is applied first.
+    pub twists: Items<NamedTwist>,
+    /// The labels along which the polygons are joined.
+    pub seams: Items<Name>,
+    /// The arc of each side of the polygon after all slides.
+    pub basis: Items<ArcNo>,
+    /// The exits of each strand in the first drawing.
+    pub strands: Items<Items<Exit>>,
+    pub fingers: Items<Finger>,
+    /// The exits of each strand in the last drawing, after all fingers.
+    pub finals: Items<Items<Exit>>,
+    /// The number of generators of the last drawing.
+    pub generators: u32,
+    /// The contact generator, which is the last,
+    pub contact: GenNo,
+    /// and the numbers of its points, arc by arc.
+    pub points: Items<u32>,
+    pub pivots: Items<Pivot>,
+    pub rank: u32,
+    /// The number of generators less twice the rank.
+    pub homology: i32,
+    pub verdict: Verdict,
+}
+
+// By hand, so that a caller's proof holds one call and not the drop of each field.
+impl Drop for Certificate {
+    fn drop(self) {
+        let Certificate {
+            polygons: _polygons,
+            curves: _curves,
+            slides: _slides,
+            twists: _twists,
+            seams: _seams,
+            basis: _basis,
+            strands: _strands,
+            fingers: _fingers,
+            finals: _finals,
+            points: _points,
+            pivots: _pivots,
+            verdict: _verdict,
+            ..
+        } = self;
+    }
+}
