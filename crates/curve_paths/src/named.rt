@@ -29,6 +29,9 @@ pub struct NamedTwist {
 // By hand, so that a caller's proof holds one call and not the drop of each field.
 impl Drop for NamedTwist {
     fn drop(self) {
-        let NamedTwist { name: _name, .. } = self;
+        let NamedTwist {
+            name: _name,
+            power: _power,
+        } = self;
     }
 }

@@ -41,6 +41,7 @@ pub struct Certificate {
 impl Drop for Certificate {
     fn drop(self) {
         let Certificate {
+            version: _version,
             polygons: _polygons,
             curves: _curves,
             slides: _slides,
@@ -50,10 +51,13 @@ impl Drop for Certificate {
             strands: _strands,
             fingers: _fingers,
             finals: _finals,
+            generators: _generators,
+            contact: _contact,
             points: _points,
             pivots: _pivots,
+            rank: _rank,
+            homology: _homology,
             verdict: _verdict,
-            ..
         } = self;
     }
 }
