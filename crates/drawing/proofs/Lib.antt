@@ -8,6 +8,7 @@ mod Filled
 pub mod Generators
 mod Hits
 mod IdentityEmbedded
+pub mod IdentityLaws
 mod IdentityTables
 mod KeptTables
 mod LaidThin

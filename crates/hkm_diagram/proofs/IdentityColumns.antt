@@ -9,11 +9,13 @@ use Rattle.obd_base.proofs.lists.Below.{mem_below}
 use Rattle.obd_base.proofs.lists.Members.{mem_filter}
 use Rattle.page_surface.specs.Polygon.{Polygon, IsPolygon, arc_count, second_side}
 use Rattle.page_surface.specs.Drawing.{exit, identity, strand_exits}
+use Rattle.drawing.specs.Pieces.{badness, inner_pieces}
 use Rattle.drawing.specs.Points.{all_lists, contact_generator, generators, is_generator}
 use Rattle.drawing.proofs.Generators.{bound_at, bound_count, bounded, listed_is_generator, own_is_generator}
 use Rattle.hkm_diagram.specs.Domains.{column, columns, domains}
 use Rattle.hkm_diagram.proofs.Identity.{one_crossing, strand_at, strand_is}
 use Rattle.hkm_diagram.proofs.IdentityDomains.{even_domains}
+use Rattle.hkm_diagram.proofs.IdentityPieces.{bigon_badness, listed_bigon}
 use Rattle.hkm_diagram.proofs.Laws.{no_members}
 
 -- a filter that each member passes keeps them all
@@ -49,6 +51,10 @@ module _ (p : Polygon) (ok : IsPolygon p) where
   pub identity_strands : map (strand_exits (identity p)) (below (arc_count p)) ≡ (identity p).strands
   identity_strands =
       mapped_alike (strand_exits (identity p)) (λ i. exit (second_side p i) 0 ∷ []) (below (arc_count p)) (λ i m. strand_is p ok i (mem_below (arc_count p) i m))
+
+  -- no piece is bad, base pieces left aside: each is a bigon at the end of a side
+  pub identity_badness : (q : ℕ) → Mem q (inner_pieces (identity p)) → badness (identity p) q ≡ 0
+  identity_badness q m = let (k, l, is) = listed_bigon p ok q m in rw is (bigon_badness p ok k l)
 
   -- a generator has point 0 or 1 on each arc
   small : (points : List ℕ) → Mem points (generators (identity p)) → (a : ℕ) → a < arc_count p → get_or points a 0 ≤ 1

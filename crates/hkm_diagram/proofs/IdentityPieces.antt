@@ -11,7 +11,7 @@ use Rattle.obd_base.proofs.lists.Counts.{count_one}
 use Rattle.obd_base.proofs.lists.Members.{filter_mem, mem_filter}
 use Rattle.page_surface.specs.Polygon.{Polygon, IsPolygon, arc, arc_count, first_side, second_side, sides}
 use Rattle.page_surface.specs.Drawing.{Chord, Drawing, beyond, chords, exit, identity, offset, points_on, spot, strand_chords}
-use Rattle.drawing.specs.Pieces.{corners, gap, gaps, inner_pieces, is_base, piece_table, pieces, same_piece, separates, span_count, spans}
+use Rattle.drawing.specs.Pieces.{badness, corners, gap, gaps, inner_pieces, is_base, piece_table, pieces, same_piece, separates, span_count, spans}
 use Rattle.drawing.proofs.ChordTree.{any_in, same_from_each}
 use Rattle.drawing.proofs.Lists.{flat_mem, mem_flat}
 use Rattle.drawing.proofs.SamePiece.{first_same, same_piece_refl}
@@ -176,6 +176,10 @@ module _ (p : Polygon) (ok : IsPolygon p) where
       = count_one (same_piece (chords drawing) (bigon k)) 0 (span_count drawing) (bigon k) (omega arith) (omega (arith, spans_are))
       (same_piece_refl (chords drawing) (bigon k)) (λ t lo hi same. bigon_alone k t l same) in
       omega (arith, c, one)
+
+  -- and it isn't bad
+  pub bigon_badness : (k : ℕ) → k < sides p → badness drawing (bigon k) ≡ 0
+  bigon_badness k l = let c = bigon_corners k l in omega (arith, c)
 
   -- and it is one of the pieces that aren't base
   pub bigon_listed : (k : ℕ) → k < sides p → Mem (bigon k) (inner_pieces drawing)

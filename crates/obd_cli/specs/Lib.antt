@@ -1,4 +1,5 @@
-pub mod Belongs
+pub mod Opened
 pub mod Refused
 pub mod Run
+pub mod Steps
 pub mod Words

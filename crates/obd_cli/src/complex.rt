@@ -7,7 +7,7 @@ ghost use Rattle.page_surface.specs.Drawing.{identity};
 ghost use Rattle.page_surface.specs.Polygon.{IsPolygon, arc_count};
 ghost use Rattle.drawing.specs.Points.{generators};
 ghost use Rattle.mod2_rank.specs.Linear.{IsOutcomeOf};
-ghost use Rattle.obd_cli.specs.Belongs.{IsComplexOf, rows_of};
+ghost use Rattle.obd_cli.specs.Steps.{IsComplexOf, rows_of};
 
 use hkm_diagram::Diagram;
 use mod2_rank::{Outcome, Verdict};
@@ -130,15 +130,14 @@ pub(crate) struct Complex {
     pub(crate) outcome: Outcome,
 }
 
-// The complex of the identity drawing.
-pub(crate) fn complex_of(alloc: Global, diagram: &Diagram, arcs: u32) -> Result<Complex, NoMemory>
-    requires valid { IsPolygon diagram.now.polygon }
-    requires identity { diagram.now ≡ identity diagram.now.polygon }
-    requires arcs { arcs ≡ arc_count diagram.now.polygon }
-    requires few { arcs ≤ 8 }
+/// The complex of the identity drawing. A strand crosses its own arc once and no other arc, so with `n` arcs there are
+/// `2^n` generators, at most 256. The two bigons from a crossing point to the contact point cancel: each column is
+/// empty, and the contact generator alone is a functional. Linear in the numbers of the generators' points.
+pub(crate) fn complex_of(alloc: Global, diagram: &Diagram) -> Result<Complex, NoMemory>
+    requires { diagram.now ≡ identity diagram.now.polygon }
     ensures { IfOk result (IsComplexOf diagram.now) }
 {
-    let generators = generators(alloc, diagram, arcs)?;
+    let generators = generators(alloc, diagram, diagram.drawing().polygon().sides() / 2)?;
     let columns = columns(alloc, generators.as_slice())?;
     Ok(Complex {
         generators: generators.len() as u32,

@@ -1,2 +1,4 @@
+pub mod Belonging
 pub mod Line
+pub mod OpenBook
 pub mod Text

@@ -1,0 +1,53 @@
+-- What each step of a run makes of a book.
+use Rattle.std.specs.Prelude.{◌≡◌, ℕ, ◌≤◌, List, map, length, All, IfSome}
+use Rattle.obd_base.specs.declared.points.Column.{Column}
+use Rattle.page_surface.specs.Drawing.{Drawing, identity}
+use Rattle.page_surface.specs.Joining.{joined}
+use Rattle.page_surface.specs.Polygon.{IsPolygon}
+use Rattle.arc_basis.specs.Basis.{joined_polygon}
+use Rattle.curve_paths.specs.Curves.{IsCurve}
+use Rattle.curve_paths.specs.Twists.{exits_of}
+use Rattle.drawing.specs.Points.{generators}
+use Rattle.hkm_diagram.specs.Domains.{columns}
+use Rattle.mod2_rank.specs.Linear.{IsOutcomeOf}
+use Rattle.witness_check.specs.Belonging.{IsFirstDrawing, LeadTo}
+use Rattle.witness_check.specs.OpenBook.{IsSurface, Surface as Shown}
+use Rattle.obd_doc.specs.declared.book.Book.{Book}
+use Rattle.obd_cli.specs.Opened.{open_book}
+use Rattle.obd_cli.specs.declared.complex.Complex.{Complex}
+use Rattle.obd_cli.specs.declared.moves.Moved.{Moved}
+use Rattle.obd_cli.specs.declared.surface.Surface.{Surface}
+
+-- the polygon and the curves of a surface
+abbrev pub shown : Surface → Shown
+shown s = record { polygon = joined_polygon s.basis; curves = map exits_of s.curves }
+
+-- the surface of a book: its page joined, and its curves after all slides
+pub record IsSurfaceOf (book : Book) (s : Surface) : Type 0 where
+  pub basis : s.basis ≡ joined book.page
+  pub surface : IsSurface (open_book book) (shown s)
+  pub curves : All (λ curve. IfSome curve (IsCurve (joined_polygon s.basis))) s.curves
+
+-- the strands of the first drawing, and legal fingers that lead from it to a nice one; for now it is nice as it stands
+pub record IsMoved (first : Drawing) (m : Moved) : Type 0 where
+  pub strands : m.strands ≡ first.strands
+  pub leads : LeadTo first m.fingers m.last
+  pub same : m.last ≡ first
+
+-- the strands of the book's first drawing, and the fingers that lead from it to the last one
+pub record AreDrawings (book : Book) (s : Surface) (m : Moved) : Type 0 where
+  pub first : Drawing
+  pub first_is : IsFirstDrawing (open_book book) (shown s) first
+  pub moved : IsMoved first m
+
+-- columns as the lists of their rows
+abbrev pub rows_of : List Column → List (List ℕ)
+rows_of columns = map (λ column. column.rows) columns
+
+-- the number of generators of a drawing, of which there is one at least, and the outcome of its columns
+pub record IsComplexOf (d : Drawing) (complex : Complex) : Type 0 where
+  pub count : complex.generators ≡ length (generators d)
+  pub least : 1 ≤ complex.generators
+  pub most : complex.generators ≤ 256
+  pub concludes : IsOutcomeOf complex.generators (columns d) complex.outcome
+  pub rank : complex.outcome.rank ≤ complex.generators

@@ -1,0 +1,116 @@
+// The certificate of a book, from what the steps make.
+ghost use Rattle.std.specs.Prelude.{◌≡◌, ◌<◌, ◌≤◌, ◌*◌, ◌^◌, pos, ◌-ℤ◌, [], map, length, IfOk};
+ghost use Rattle.obd_base.specs.Lists.{below};
+ghost use Rattle.page_surface.specs.Polygon.{arc_count};
+ghost use Rattle.drawing.specs.Points.{contact_generator, crossings_of};
+ghost use Rattle.obd_doc.specs.Document.{IsBook};
+ghost use Rattle.witness_check.specs.Belonging.{BelongsTo};
+ghost use Rattle.obd_cli.specs.Opened.{open_book, paths_of};
+ghost use Rattle.obd_cli.specs.Steps.{AreDrawings, IsComplexOf, IsSurfaceOf};
+
+use crate::complex::{Complex, complex_of};
+use crate::drawn::drawn;
+use crate::moves::{Moved, moved, strands_of};
+use crate::surface::{Surface, surface_of};
+use curve_paths::{NamedPath, copied_path, page_names};
+use hkm_diagram::Diagram;
+use obd_base::{ArcNo, GenNo, Items, Name, NoMemory};
+use obd_doc::{Book, NamedCurve};
+use std::alloc::Global;
+use witness_check::Certificate;
+
+// The curves of a book by name and crossings.
+fn named_paths(alloc: Global, curves: &[NamedCurve]) -> Result<Items<NamedPath>, NoMemory>
+    ensures { IfOk result (λ paths. paths ≡ paths_of curves.now) }
+{
+    let mut paths = Items::new(alloc);
+    for curve in curves {
+        paths.push(NamedPath {
+            name: Name::from_str(alloc, curve.name.as_str())?,
+            path: copied_path(alloc, curve.path.as_slice())?,
+        })?;
+    }
+    Ok(paths)
+}
+
+// The numbers of the contact points, arc by arc.
+fn contact_points(alloc: Global, diagram: &Diagram) -> Result<Items<u32>, NoMemory>
+    ensures { IfOk result (λ points. points ≡ contact_generator diagram.now) }
+{
+    let mut points = Items::new(alloc);
+    for arc in 0..diagram.drawing().polygon().sides() / 2 {
+        points.push(diagram.contact(ArcNo::new(arc)).number)?;
+    }
+    Ok(points)
+}
+
+// The number of generators less twice the rank.
+fn homology(generators: u32, rank: u32) -> i32
+    requires few { generators < 2 ^ 30 }
+    requires rank { rank ≤ generators }
+    ensures { result ≡ pos generators -ℤ pos (2 * rank) }
+{
+    generators as i32 - 2 * rank as i32
+}
+
+// The certificate of a book from its surface, its drawings and the complex of the last one. Linear in the text that it
+// makes.
+fn certificate_of(
+    alloc: Global,
+    book: &Book,
+    surface: &Surface,
+    moved: Moved,
+    complex: Complex,
+) -> Result<Certificate, NoMemory>
+    requires surface { IsSurfaceOf book.now surface.now }
+    requires slides { book.now.slides ≡ [] }
+    requires twists { book.now.twists ≡ [] }
+    requires drawings { AreDrawings book.now surface.now moved }
+    requires complex { IsComplexOf moved.last complex }
+    ensures { IfOk result (BelongsTo (open_book book.now)) }
+{
+    let Moved {
+        strands,
+        fingers,
+        last,
+    } = moved;
+    let Complex {
+        generators,
+        outcome,
+    } = complex;
+    Ok(Certificate {
+        version: 1,
+        polygons: page_names(alloc, &book.page)?,
+        curves: named_paths(alloc, book.curves.as_slice())?,
+        slides: Items::new(alloc),
+        twists: Items::new(alloc),
+        seams: surface.seam_names(alloc, &book.page)?,
+        basis: surface.arcs(alloc)?,
+        strands,
+        fingers,
+        finals: strands_of(alloc, last.drawing())?,
+        generators,
+        contact: GenNo::new(generators - 1),
+        points: contact_points(alloc, &last)?,
+        homology: homology(generators, outcome.rank),
+        pivots: outcome.pivots,
+        rank: outcome.rank,
+        verdict: outcome.verdict,
+    })
+}
+
+/// The certificate of a book with one polygon, no slide and no twist, and with that polygon's identity drawing. Linear in
+/// the generators, at most 256, and in the text that they make.
+pub(crate) fn certify(alloc: Global, book: &Book) -> Result<Certificate, NoMemory>
+    requires valid { IsBook book.now }
+    requires one { length book.now.page ≡ 1 }
+    requires slides { book.now.slides ≡ [] }
+    requires twists { book.now.twists ≡ [] }
+    ensures { IfOk result (BelongsTo (open_book book.now)) }
+{
+    let surface = surface_of(alloc, book)?;
+    let diagram = drawn(alloc, book, &surface)?;
+    let moved = moved(alloc, diagram)?;
+    let complex = complex_of(alloc, &moved.last)?;
+    certificate_of(alloc, book, &surface, moved, complex)
+}

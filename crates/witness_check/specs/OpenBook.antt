@@ -1,0 +1,69 @@
+-- An open book, and the polygon, the curves and the words that it gives.
+use Rattle.std.specs.Prelude.{◌≡◌, ℕ, List, [], ◌∷◌, map, slice_index_or, Option, None, Some, Result}
+use Rattle.std.specs.List.{position_or_len}
+use Rattle.std.specs.Str.{bytes_eq}
+use Rattle.obd_base.specs.Lists.{below}
+use Rattle.obd_base.specs.declared.points.Exit.{Exit}
+use Rattle.page_surface.specs.Joining.{joined, page_polygon}
+use Rattle.page_surface.specs.Labels.{Label, labels_of}
+use Rattle.page_surface.specs.Polygon.{Polygon, arc, sides}
+use Rattle.curve_paths.specs.Through.{exits_through}
+use Rattle.curve_paths.specs.Twists.{words_after}
+use Rattle.curve_paths.specs.declared.named.NamedPath.{NamedPath}
+use Rattle.curve_paths.specs.declared.named.NamedTwist.{NamedTwist}
+use Rattle.curve_paths.specs.declared.twist.TooLong.{TooLong}
+use Rattle.curve_paths.specs.declared.twist.Twist.{Twist}
+
+-- a page, curves on it by name, slides along sides, one after another, and the twist word, whose first entry is applied first
+pub record OpenBook : Type 0 where
+  pub page : List (List Label)
+  pub curves : List NamedPath
+  pub slides : List ℕ
+  pub twists : List NamedTwist
+
+-- a polygon, and some curves on it by their exits
+pub record Surface : Type 0 where
+  pub polygon : Polygon
+  pub curves : List (List Exit)
+
+-- the page joined, and the book's curves on it
+abbrev pub joined_surface : OpenBook → Surface
+joined_surface book = record { polygon = page_polygon book.page; curves = map (λ curve. exits_through book.page curve.path) book.curves }
+
+-- what a slide along a side leaves, where it is accepted; as long as slides aren't built, none is accepted
+abbrev pub slid_along : Surface → ℕ → Option Surface
+slid_along s side = None
+
+-- what follows on a surface, where there is one
+abbrev pub going_on : (Surface → Option Surface) → Option Surface → Option Surface
+going_on next None = None
+going_on next (Some s) = next s
+
+-- what some slides leave, one after another
+abbrev pub slid : Surface → List ℕ → Option Surface
+slid s [] = Some s
+slid s (side ∷ rest) = going_on (λ t. slid t rest) (slid_along s side)
+
+-- the book's slides are accepted, and leave this surface
+abbrev pub IsSurface : OpenBook → Surface → Type 0
+IsSurface book s = slid (joined_surface book) book.slides ≡ Some s
+
+-- the names of the labels that become seams
+abbrev pub seam_names : List (List Label) → List Label
+seam_names page = map (λ label. slice_index_or (labels_of page) label []) (joined page).seams
+
+-- the arcs of a polygon's sides
+abbrev pub arcs : Polygon → List ℕ
+arcs p = map (arc p) (below (sides p))
+
+-- the names of the curves
+abbrev pub curve_names : OpenBook → List (List ℕ)
+curve_names book = map (λ curve. curve.name) book.curves
+
+-- the twist word by the numbers of the curves, each the first one of its name
+abbrev pub entries : OpenBook → List Twist
+entries book = map (λ twist. record { curve = position_or_len (bytes_eq twist.name) (curve_names book); power = twist.power }) book.twists
+
+-- the words of the strands after the twist word
+abbrev pub words_on : Surface → OpenBook → Result (List (List ℕ)) TooLong
+words_on s book = words_after s.polygon s.curves (entries book)
