@@ -11,7 +11,7 @@ use Rattle.drawing.specs.Points.{generators}
 use Rattle.hkm_diagram.specs.Domains.{columns}
 use Rattle.mod2_rank.specs.Linear.{IsOutcomeOf}
 use Rattle.witness_check.specs.Belonging.{IsFirstDrawing, LeadTo}
-use Rattle.witness_check.specs.OpenBook.{IsSurface, Surface as Shown}
+use Rattle.witness_check.specs.OpenBook.{IsSurface, Surface as Shown, joined_surface}
 use Rattle.obd_doc.specs.declared.book.Book.{Book}
 use Rattle.obd_cli.specs.Opened.{open_book}
 use Rattle.obd_cli.specs.declared.complex.Complex.{Complex}
@@ -22,11 +22,12 @@ use Rattle.obd_cli.specs.declared.surface.Surface.{Surface}
 abbrev pub shown : Surface → Shown
 shown s = record { polygon = joined_polygon s.basis; curves = map exits_of s.curves }
 
--- the surface of a book: its page joined, and its curves after all slides
+-- the surface of a book: its page joined, and its curves, after all slides; for now there is none
 pub record IsSurfaceOf (book : Book) (s : Surface) : Type 0 where
   pub basis : s.basis ≡ joined book.page
   pub surface : IsSurface (open_book book) (shown s)
-  pub curves : All (λ curve. IfSome curve (IsCurve (joined_polygon s.basis))) s.curves
+  pub joined_so : shown s ≡ joined_surface (open_book book)
+  pub curves : All (λ curve. IfSome curve (IsCurve (shown s).polygon)) s.curves
 
 -- the strands of the first drawing, and legal fingers that lead from it to a nice one; for now it is nice as it stands
 pub record IsMoved (first : Drawing) (m : Moved) : Type 0 where

@@ -1,23 +1,18 @@
 -- The words of a book's strands after its twist word, and the text of the command `page`.
 use Rattle.std.specs.Prelude.{ℕ, suc, List, [], ◌∷◌, ◌++◌, codes, decimal, length, map, slice_index_or, Result, Ok, Err}
-use Rattle.obd_base.specs.Lists.{below}
 use Rattle.obd_base.specs.declared.points.Exit.{Exit}
 use Rattle.page_surface.specs.Joining.{page_polygon}
 use Rattle.page_surface.specs.Labels.{Label}
-use Rattle.page_surface.specs.Polygon.{Polygon, arc, sides}
+use Rattle.page_surface.specs.Polygon.{Polygon}
 use Rattle.curve_paths.specs.Curves.{identity_words}
-use Rattle.curve_paths.specs.Through.{exits_through}
 use Rattle.twist_words.specs.Powers.{by_power}
 use Rattle.obd_doc.specs.declared.book.Book.{Book}
 use Rattle.obd_doc.specs.declared.book.Twist.{Twist}
-use Rattle.obd_cli.specs.Belongs.{seam_names}
+use Rattle.witness_check.specs.OpenBook.{arcs, joined_surface, seam_names}
+use Rattle.obd_cli.specs.Opened.{open_book}
 use Rattle.witness_check.specs.Line.{line, row_lines}
 use Rattle.obd_cli.specs.Refused.{refused_line}
 use Rattle.obd_cli.specs.declared.words.TooLong.{TooLong}
-
--- the exits of the book's curves on the joined polygon
-abbrev pub curve_exits : Book → List (List Exit)
-curve_exits book = map (λ curve. exits_through book.page curve.path) book.curves
 
 -- the words after one entry; else its number, with how many letters they have
 abbrev pub numbered : ℕ → Result (List (List ℕ)) ℕ → Result (List (List ℕ)) TooLong
@@ -35,9 +30,9 @@ by_entries p curves number [] words = Ok words
 by_entries p curves number (twist ∷ twists) words =
     following (by_entries p curves (suc number) twists) (numbered number (by_power p (slice_index_or curves twist.curve []) twist.power words))
 
--- the words of the book's strands, from those of the identity
+-- the words of the book's strands on its page joined, from those of the identity
 unfoldable pub book_words : Book → Result (List (List ℕ)) TooLong
-book_words book = by_entries (page_polygon book.page) (curve_exits book) 0 book.twists (identity_words (page_polygon book.page))
+book_words book = let s = joined_surface (open_book book) in by_entries s.polygon s.curves 0 book.twists (identity_words s.polygon)
 
 -- the lines of the seams and of the basis, and a line with the word of each strand
 abbrev pub lines_of : List Label → List ℕ → List (List ℕ) → List ℕ
@@ -48,7 +43,7 @@ lines_of seams arcs words =
 
 -- the text of `page`
 abbrev pub words_text : Book → List (List ℕ) → List ℕ
-words_text book words = lines_of (seam_names book.page) (map (arc (page_polygon book.page)) (below (sides (page_polygon book.page)))) words
+words_text book words = lines_of (seam_names book.page) (arcs (page_polygon book.page)) words
 
 -- the line of words that are too long
 abbrev pub long_line : TooLong → List ℕ

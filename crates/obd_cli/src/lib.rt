@@ -6,11 +6,14 @@
 //! are this project's own.
 #![tactic(auto)]
 
+mod certify;
 mod complex;
-mod identity;
+mod drawn;
+mod moves;
 mod page;
 mod refused;
 mod status;
+mod surface;
 mod top;
 mod words;
 

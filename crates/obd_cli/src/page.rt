@@ -1,15 +1,14 @@
 // The answer of the command `page`.
-ghost use Rattle.std.specs.Prelude.{◌≡◌, ◌++◌, true, length, IfOk, OnOk};
-ghost use Rattle.page_surface.specs.Joining.{joined as joined_page};
+ghost use Rattle.std.specs.Prelude.{◌≡◌, ◌++◌, [], true, length, IfOk, OnOk};
 ghost use Rattle.obd_doc.specs.Document.{IsBook};
 ghost use Rattle.obd_cli.specs.Run.{has_text, page_answer, refused_with};
+ghost use Rattle.obd_cli.specs.Steps.{IsSurfaceOf};
 ghost use Rattle.obd_cli.specs.Words.{book_words as words_of_book, lines_of, long_line, words_text};
 
-use crate::identity::{basis, label_names};
 use crate::refused::put_refused;
 use crate::status::{Answer, Status};
+use crate::surface::{Surface, surface_of};
 use crate::words::{TooLong, Wordless, book_words};
-use arc_basis::{Basis, join};
 use obd_base::{ArcNo, Items, Name, NoMemory, SideNo, Text};
 use obd_doc::Book;
 use std::alloc::Global;
@@ -33,14 +32,14 @@ fn put_page(
 fn words_text(
     alloc: Global,
     book: &Book,
-    joined: &Basis,
+    surface: &Surface,
     words: &[Items<SideNo>],
 ) -> Result<Text, NoMemory>
-    requires { joined.now ≡ joined_page book.now.page }
+    requires { IsSurfaceOf book.now surface.now }
     ensures { IfOk result (λ text. text ≡ words_text book.now words.now) }
 {
-    let seams = label_names(alloc, &book.page, joined.seams())?;
-    let arcs = basis(alloc, joined.polygon())?;
+    let seams = surface.seam_names(alloc, &book.page)?;
+    let arcs = surface.arcs(alloc)?;
     let mut text = Text::new(alloc);
     put_page(&mut text, seams.as_slice(), arcs.as_slice(), words)?;
     Ok(text)
@@ -63,14 +62,15 @@ fn too_long(alloc: Global, long: TooLong) -> Result<Answer, NoMemory>
 pub(crate) fn paged(alloc: Global, book: &Book) -> Result<Answer, NoMemory>
     requires valid { IsBook book.now }
     requires one { length book.now.page ≡ 1 }
+    requires slides { book.now.slides ≡ [] }
     ensures answered { IfOk result (λ answer. answer ≡ page_answer book.now (words_of_book book.now)) }
     ensures settled { IfOk result (λ answer. has_text answer.status ≡ true) }
 {
-    let joined = join(alloc, &book.page)?;
-    match book_words(alloc, book, &joined) {
+    let surface = surface_of(alloc, book)?;
+    match book_words(alloc, book, &surface) {
         Ok(words) => Ok(Answer {
             status: Status::Done,
-            text: words_text(alloc, book, &joined, words.as_slice())?,
+            text: words_text(alloc, book, &surface, words.as_slice())?,
         }),
         Err(Wordless::TooLong(long)) => too_long(alloc, long),
         Err(Wordless::NoMemory) => Err(NoMemory),

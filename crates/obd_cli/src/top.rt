@@ -8,7 +8,7 @@ ghost use Rattle.obd_cli.specs.Refused.{doc_line, refused_line};
 ghost use Rattle.obd_cli.specs.Run.{AnswersAll, AnswersBook, AnswersBytes, AnswersLong, Certifies, CutShort, Finished, IsFault, Owes, Told, command_of, has_text, not_built, not_decided, refused_with, status_owed, too_long, usage};
 ghost use Rattle.obd_cli.specs.declared.status.Command.{Command as Which};
 
-use crate::identity::certify;
+use crate::certify::certify;
 use crate::page::paged;
 use crate::refused::{put_doc_refusal, put_refused};
 use crate::status::{Answer, Command, Status};

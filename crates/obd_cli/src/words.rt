@@ -1,13 +1,11 @@
 // The words of a book's strands after its twist word.
-ghost use Rattle.std.specs.Prelude.{◌≡◌, ℕ, Ok, Err, IfOk, IfErr, IfSome, slice_index_or, []};
-ghost use Rattle.arc_basis.specs.Basis.{joined_polygon};
+ghost use Rattle.std.specs.Prelude.{◌≡◌, ℕ, All, Ok, Err, IfOk, IfErr, IfSome, option_map, slice_index_or, []};
 ghost use Rattle.curve_paths.specs.Curves.{IsCurve};
-ghost use Rattle.page_surface.specs.Joining.{joined};
 ghost use Rattle.twist_words.specs.Powers.{AreWords, exits_of, by_power as words_by_power};
-ghost use Rattle.obd_doc.specs.Document.{IsBook};
-ghost use Rattle.obd_cli.specs.Words.{book_words as words_of_book, curve_exits, numbered};
+ghost use Rattle.obd_cli.specs.Steps.{IsSurfaceOf, shown};
+ghost use Rattle.obd_cli.specs.Words.{book_words as words_of_book, numbered};
 
-use arc_basis::Basis;
+use crate::surface::Surface;
 use curve_paths::Curve;
 use obd_base::{Items, NoMemory, SideNo};
 use obd_doc::{Book, Twist};
@@ -40,57 +38,52 @@ impl From<NoMemory> for Wordless {
     }
 }
 
-// The curve of an entry of the twist word on the polygon of the basis, none where it crosses seams alone.
-fn curve_of(book: &Book, basis: &Basis, twist: Twist) -> Result<Option<Curve>, NoMemory>
-    requires book { IsBook book.now }
-    requires basis { basis.now ≡ joined book.now.page }
-    ensures exits { IfOk result (λ curve. exits_of curve ≡ slice_index_or (curve_exits book.now) twist.curve []) }
-    ensures curve { IfOk result (λ curve. IfSome curve (IsCurve (joined_polygon basis.now))) }
+// The curve of an entry of the twist word on a surface, none where it crosses seams alone.
+fn curve_of(surface: &Surface, twist: Twist) -> Option<&Curve>
+    requires { All (λ curve. IfSome curve (IsCurve (shown surface.now).polygon)) surface.now.curves }
+    ensures exits { exits_of (option_map (λ curve. curve.now) result) ≡ slice_index_or (shown surface.now).curves twist.curve [] }
+    ensures curve { IfSome result (λ curve. IsCurve (shown surface.now).polygon curve.now) }
 {
-    match book.curves.as_slice().get(twist.curve as usize) {
-        Some(named) => named.curve.through(basis),
-        None => Ok(None),
+    match surface.curves.as_slice().get(twist.curve as usize) {
+        Some(curve) => curve.as_ref(),
+        None => None,
     }
 }
 
 // The words after one entry of the twist word.
 fn after_twist(
     alloc: Global,
-    book: &Book,
-    basis: &Basis,
+    surface: &Surface,
     twist: Twist,
     words: Items<Items<SideNo>>,
 ) -> Result<Items<Items<SideNo>>, TwistRefusal>
-    requires book { IsBook book.now }
-    requires basis { basis.now ≡ joined book.now.page }
-    requires words { AreWords (joined_polygon basis.now) words }
-    ensures turned { IfOk result (λ now. words_by_power (joined_polygon basis.now) (slice_index_or (curve_exits book.now) twist.curve []) twist.power words ≡ Ok now) }
-    ensures words { IfOk result (λ now. AreWords (joined_polygon basis.now) now) }
+    requires curves { All (λ curve. IfSome curve (IsCurve (shown surface.now).polygon)) surface.now.curves }
+    requires words { AreWords (shown surface.now).polygon words }
+    ensures turned { IfOk result (λ now. words_by_power (shown surface.now).polygon (slice_index_or (shown surface.now).curves twist.curve []) twist.power words ≡ Ok now) }
+    ensures words { IfOk result (λ now. AreWords (shown surface.now).polygon now) }
     ensures long { IfErr result (λ refusal. (count : ℕ) → refusal ≡ TwistRefusal.TooLong count
-        → words_by_power (joined_polygon basis.now) (slice_index_or (curve_exits book.now) twist.curve []) twist.power words ≡ Err count) }
+        → words_by_power (shown surface.now).polygon (slice_index_or (shown surface.now).curves twist.curve []) twist.power words ≡ Err count) }
 {
-    let curve = curve_of(book, basis, twist)?;
-    by_power(alloc, basis.polygon(), curve.as_ref(), twist.power, words)
+    let curve = curve_of(surface, twist);
+    by_power(alloc, surface.basis.polygon(), curve, twist.power, words)
 }
 
 // The same, with the number of the entry where the words become too long.
 fn after_entry(
     alloc: Global,
-    book: &Book,
-    basis: &Basis,
+    surface: &Surface,
     number: u64,
     twist: &Twist,
     words: Items<Items<SideNo>>,
 ) -> Result<Items<Items<SideNo>>, Wordless>
-    requires book { IsBook book.now }
-    requires basis { basis.now ≡ joined book.now.page }
-    requires words { AreWords (joined_polygon basis.now) words }
-    ensures turned { IfOk result (λ now. numbered number (words_by_power (joined_polygon basis.now) (slice_index_or (curve_exits book.now) twist.now.curve []) twist.now.power words) ≡ Ok now) }
-    ensures words { IfOk result (λ now. AreWords (joined_polygon basis.now) now) }
+    requires curves { All (λ curve. IfSome curve (IsCurve (shown surface.now).polygon)) surface.now.curves }
+    requires words { AreWords (shown surface.now).polygon words }
+    ensures turned { IfOk result (λ now. numbered number (words_by_power (shown surface.now).polygon (slice_index_or (shown surface.now).curves twist.now.curve []) twist.now.power words) ≡ Ok now) }
+    ensures words { IfOk result (λ now. AreWords (shown surface.now).polygon now) }
     ensures long { IfErr result (λ refusal. (long : TooLong) → refusal ≡ Wordless.TooLong long
-        → numbered number (words_by_power (joined_polygon basis.now) (slice_index_or (curve_exits book.now) twist.now.curve []) twist.now.power words) ≡ Err long) }
+        → numbered number (words_by_power (shown surface.now).polygon (slice_index_or (shown surface.now).curves twist.now.curve []) twist.now.power words) ≡ Err long) }
 {
-    match after_twist(alloc, book, basis, *twist, words) {
+    match after_twist(alloc, surface, *twist, words) {
         Ok(words) => Ok(words),
         Err(TwistRefusal::TooLong { letters }) => Err(Wordless::TooLong(TooLong {
             twist: number,
@@ -106,17 +99,16 @@ fn after_entry(
 pub(crate) fn book_words(
     alloc: Global,
     book: &Book,
-    basis: &Basis,
+    surface: &Surface,
 ) -> Result<Items<Items<SideNo>>, Wordless>
-    requires book { IsBook book.now }
-    requires basis { basis.now ≡ joined book.now.page }
+    requires { IsSurfaceOf book.now surface.now }
     ensures words { IfOk result (λ words. words_of_book book.now ≡ Ok words) }
     ensures long { IfErr result (λ refusal. (long : TooLong) → refusal ≡ Wordless.TooLong long → words_of_book book.now ≡ Err long) }
 {
-    let mut words = identity_words(alloc, basis.polygon())?;
+    let mut words = identity_words(alloc, surface.basis.polygon())?;
     let twists = book.twists.as_slice();
     for (number, twist) in twists.iter().enumerate() {
-        words = after_entry(alloc, book, basis, number as u64, twist, words)?;
+        words = after_entry(alloc, surface, number as u64, twist, words)?;
     }
     Ok(words)
 }
