@@ -16,9 +16,11 @@ mod named;
 mod path;
 mod places;
 mod refusal;
+mod twist;
 
 pub use copies::{copied_path, page_names};
 pub use curve::Curve;
 pub use named::{NamedPath, NamedTwist};
 pub use path::{Cross, PageCurve};
 pub use refusal::CurveRefusal;
+pub use twist::{TooLong, Twist};

@@ -9,6 +9,7 @@
 mod certify;
 mod complex;
 mod drawn;
+mod first_words;
 mod moves;
 mod page;
 mod refused;

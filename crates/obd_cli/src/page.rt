@@ -8,7 +8,8 @@ ghost use Rattle.obd_cli.specs.Words.{book_words as words_of_book, lines_of, lon
 use crate::refused::put_refused;
 use crate::status::{Answer, Status};
 use crate::surface::{Surface, surface_of};
-use crate::words::{TooLong, Wordless, book_words};
+use crate::words::{Wordless, book_words};
+use curve_paths::TooLong;
 use obd_base::{ArcNo, Items, Name, NoMemory, SideNo, Text};
 use obd_doc::Book;
 use std::alloc::Global;

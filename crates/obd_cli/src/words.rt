@@ -1,24 +1,17 @@
 // The words of a book's strands after its twist word.
 ghost use Rattle.std.specs.Prelude.{◌≡◌, ℕ, All, Ok, Err, IfOk, IfErr, IfSome, option_map, slice_index_or, []};
 ghost use Rattle.curve_paths.specs.Curves.{IsCurve};
-ghost use Rattle.twist_words.specs.Powers.{AreWords, exits_of, by_power as words_by_power};
+ghost use Rattle.curve_paths.specs.Twists.{AreWords, by_entry, by_power as words_by_power, exits_of};
 ghost use Rattle.obd_cli.specs.Steps.{IsSurfaceOf, shown};
-ghost use Rattle.obd_cli.specs.Words.{book_words as words_of_book, numbered};
+ghost use Rattle.obd_cli.specs.Words.{book_words as words_of_book};
 
+use crate::first_words::identity_words;
 use crate::surface::Surface;
-use curve_paths::Curve;
+use curve_paths::{Curve, TooLong, Twist};
 use obd_base::{Items, NoMemory, SideNo};
-use obd_doc::{Book, Twist};
+use obd_doc::Book;
+use path_words::{TwistRefusal, by_power};
 use std::alloc::Global;
-use twist_words::{TwistRefusal, by_power, identity_words};
-
-/// The entry of the twist word, counted from 0, in which the words of all strands become too long, and how many
-/// letters they have together then.
-#[derive(Clone, Copy, Debug, PartialEq, Eq)]
-pub(crate) struct TooLong {
-    pub(crate) twist: u64,
-    pub(crate) letters: u64,
-}
 
 /// Why there are no words.
 #[derive(Clone, Copy, Debug, PartialEq, Eq)]
@@ -78,10 +71,10 @@ fn after_entry(
 ) -> Result<Items<Items<SideNo>>, Wordless>
     requires curves { All (λ curve. IfSome curve (IsCurve (shown surface.now).polygon)) surface.now.curves }
     requires words { AreWords (shown surface.now).polygon words }
-    ensures turned { IfOk result (λ now. numbered number (words_by_power (shown surface.now).polygon (slice_index_or (shown surface.now).curves twist.now.curve []) twist.now.power words) ≡ Ok now) }
+    ensures turned { IfOk result (λ now. by_entry (shown surface.now).polygon (shown surface.now).curves number twist.now words ≡ Ok now) }
     ensures words { IfOk result (λ now. AreWords (shown surface.now).polygon now) }
     ensures long { IfErr result (λ refusal. (long : TooLong) → refusal ≡ Wordless.TooLong long
-        → numbered number (words_by_power (shown surface.now).polygon (slice_index_or (shown surface.now).curves twist.now.curve []) twist.now.power words) ≡ Err long) }
+        → by_entry (shown surface.now).polygon (shown surface.now).curves number twist.now words ≡ Err long) }
 {
     match after_twist(alloc, surface, *twist, words) {
         Ok(words) => Ok(words),
