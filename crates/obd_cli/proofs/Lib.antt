@@ -1,8 +1,8 @@
 mod Built
+mod Certified
 mod Collected
 mod Listed
 mod Decides
 mod FirstWords
-mod Made
 mod Named
 mod WordsSoFar

@@ -15,7 +15,7 @@ use Rattle.hkm_diagram.specs.Domains.{columns as columns_of}
 use Rattle.hkm_diagram.proofs.IdentityColumns.{identity_columns, identity_generator_count, identity_generators}
 use Rattle.mod2_rank.proofs.EmptyColumns.{column_empty, empty_columns, empty_outcome, rank_zero}
 use Rattle.mod2_rank.specs.Linear.{Concludes, IsOutcomeOf}
-use Rattle.obd_cli.specs.Belongs.{IsComplexOf, rows_of}
+use Rattle.obd_cli.specs.Steps.{IsComplexOf, rows_of}
 use Rattle.mod2_rank.specs.declared.outcome.Outcome.{Outcome}
 use Rattle.mod2_rank.specs.declared.outcome.Pivot.{Pivot}
 use Rattle.mod2_rank.specs.declared.outcome.Verdict.TheVariants.{Functional}
@@ -78,11 +78,12 @@ pub complex_made : (d : Drawing) (lists seen : List (List ℕ)) (columns found :
 complex_made d lists seen columns found outcome count ok is all least most same rows given concludes rank counted =
     let columns_are : rows_of found ≡ columns_of d
     = ap rows_of given ∙ (rows ∙ (ap empty_columns (same ∙ all) ∙ (ap (λ (e : Drawing). empty_columns (generators e)) is ∙ (sym (identity_columns d.polygon ok) ∙ ap columns_of (sym is))))) in
+    let size : length found ≡ count = omega (arith, ap length given, (rows_empty seen columns rows).1, ap length same, counted) in
     record {
       count = counted ∙ ap length all;
       least = omega (arith, least, counted);
       most = omega (arith, most, counted);
-      concludes = subst (λ cs. IsOutcomeOf (length cs) cs outcome) columns_are (subst (λ n. IsOutcomeOf n (rows_of found) outcome) (sym (length-map found (λ (column : Column). column.rows))) concludes);
+      concludes = subst (λ cs. IsOutcomeOf count cs outcome) columns_are (subst (λ n. IsOutcomeOf n (rows_of found) outcome) size concludes);
       rank = omega (arith, rank, ap length given, (rows_empty seen columns rows).1, ap length same, counted);
     }
 

@@ -4,15 +4,14 @@ use Rattle.std.specs.List.{slice_get}
 use Rattle.std.proofs.lemmas.List.{map-append, take_more}
 use Rattle.std.proofs.lemmas.Option.{get_or_from_slice_get}
 use Rattle.page_surface.specs.Labels.{labels_of}
-use Rattle.obd_cli.specs.Belongs.{names_of}
+use Rattle.obd_cli.specs.Opened.{names_of}
 use Rattle.page_surface.specs.Labels.{Label}
 
--- a name that stands at a place, after those before it
-pub labels_more : (labels : List Label) (i : ℕ) (now then : List Label) (label : Label)
-    → i < length labels → now ≡ take i labels → then ≡ now ++ label ∷ [] → label ≡ get_or labels i []
-    → then ≡ take (i + 1) labels
-labels_more labels i now then label within before after is =
-    after ∙ (ap (λ items. items ++ label ∷ []) before ∙ (ap (λ item. take i labels ++ item ∷ []) is ∙ sym (take_more labels i [] within)))
+-- an item that stands at a place, after those before it
+pub taken_more : {A : Type 0} (xs : List A) (i : ℕ) (now then : List A) (x d : A)
+    → i < length xs → now ≡ take i xs → then ≡ now ++ x ∷ [] → x ≡ get_or xs i d → then ≡ take (i + 1) xs
+taken_more xs i now then x d within before after is =
+    after ∙ (ap (λ items. items ++ x ∷ []) before ∙ (ap (λ item. take i xs ++ item ∷ []) is ∙ sym (take_more xs i d within)))
 
 -- what two look-ups of one place give is one
 pub same_some : {A : Type 0} (x y : A) (found : Rattle.std.proofs.Common.Option A) → found ≡ Some x → found ≡ Some y → x ≡ y

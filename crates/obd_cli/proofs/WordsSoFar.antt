@@ -5,15 +5,15 @@ use Rattle.std.proofs.Math.Seq.{drop-cons}
 use Rattle.std.specs.Prelude.{Result, Ok, Err, IfErr}
 use Rattle.std.specs.Result.{IsErrAnd}
 use Rattle.obd_base.specs.declared.points.Exit.{Exit}
-use Rattle.page_surface.specs.Joining.{Joined, joined}
 use Rattle.page_surface.specs.Polygon.{Polygon}
-use Rattle.arc_basis.specs.Basis.{joined_polygon}
 use Rattle.curve_paths.specs.Curves.{identity_words}
-use Rattle.curve_paths.specs.Twists.{by_entries, by_entry, going_on}
+use Rattle.curve_paths.specs.Twists.{by_entries, by_entry, going_on, words_after}
 use Rattle.curve_paths.specs.declared.twist.Twist.{Twist}
 use Rattle.curve_paths.specs.declared.twist.TooLong.{TooLong}
 use Rattle.obd_doc.specs.declared.book.Book.{Book}
-use Rattle.obd_cli.specs.Words.{book_words, curve_exits}
+use Rattle.witness_check.specs.OpenBook.{Surface, joined_surface}
+use Rattle.obd_cli.specs.Opened.{open_book}
+use Rattle.obd_cli.specs.Words.{book_words}
 use Rattle.obd_cli.specs.declared.words.Wordless.{Wordless}
 use Rattle.obd_cli.specs.declared.words.Wordless.TheVariants.{TooLong as Long}
 
@@ -46,22 +46,22 @@ module _ (p : Polygon) (curves : List (List Exit)) (twists : List Twist) where
   pub entries_all : (i : ℕ) (first now : List (List ℕ)) → i ≡ length twists → by_entries p curves 0 twists first ≡ by_entries p curves i (drop i twists) now → by_entries p curves 0 twists first ≡ Ok now
   entries_all i first now end before = before ∙ ap (λ ts. by_entries p curves i ts now) (drop_of_length-le twists (omega (arith, end)))
 
--- the words of a book, when no entry is left
-pub book_all : (book : Book) (j : Joined) (i : ℕ) (now : List (List ℕ)) → j ≡ joined book.page → i ≡ length book.twists
-    → by_entries (joined_polygon j) (curve_exits book) 0 book.twists (identity_words (joined_polygon j)) ≡ by_entries (joined_polygon j) (curve_exits book) i (drop i book.twists) now
+-- the words of a book on its surface, when no entry is left
+pub book_all : (book : Book) (s : Surface) (i : ℕ) (now : List (List ℕ)) → s ≡ joined_surface (open_book book) → i ≡ length book.twists
+    → by_entries s.polygon s.curves 0 book.twists (identity_words s.polygon) ≡ by_entries s.polygon s.curves i (drop i book.twists) now
     → book_words book ≡ Ok now
 unfolding book_words
-book_all book j i now is end before =
-    sym (ap (λ (j : Joined). by_entries (joined_polygon j) (curve_exits book) 0 book.twists (identity_words (joined_polygon j))) is) ∙ entries_all (joined_polygon j) (curve_exits book) book.twists i (identity_words (joined_polygon j)) now end before
+book_all book s i now is end before =
+    sym (ap (λ (s : Surface). words_after s.polygon s.curves book.twists) is) ∙ entries_all s.polygon s.curves book.twists i (identity_words s.polygon) now end before
 
 -- and when they become too long in an entry
-pub book_long : (book : Book) (j : Joined) (i : ℕ) (twist other : Twist) (words : List (List ℕ)) (long : TooLong) → j ≡ joined book.page → i < length book.twists → twist ≡ get_or book.twists i other
-    → by_entries (joined_polygon j) (curve_exits book) 0 book.twists (identity_words (joined_polygon j)) ≡ by_entries (joined_polygon j) (curve_exits book) i (drop i book.twists) words
-    → by_entry (joined_polygon j) (curve_exits book) i twist words ≡ Err long → book_words book ≡ Err long
+pub book_long : (book : Book) (s : Surface) (i : ℕ) (twist other : Twist) (words : List (List ℕ)) (long : TooLong) → s ≡ joined_surface (open_book book) → i < length book.twists → twist ≡ get_or book.twists i other
+    → by_entries s.polygon s.curves 0 book.twists (identity_words s.polygon) ≡ by_entries s.polygon s.curves i (drop i book.twists) words
+    → by_entry s.polygon s.curves i twist words ≡ Err long → book_words book ≡ Err long
 unfolding book_words
-book_long book j i twist other words long is within item before turned =
-    sym (ap (λ (j : Joined). by_entries (joined_polygon j) (curve_exits book) 0 book.twists (identity_words (joined_polygon j))) is)
-    ∙ entries_long (joined_polygon j) (curve_exits book) book.twists i twist other (identity_words (joined_polygon j)) words long within item before turned
+book_long book s i twist other words long is within item before turned =
+    sym (ap (λ (s : Surface). words_after s.polygon s.curves book.twists) is)
+    ∙ entries_long s.polygon s.curves book.twists i twist other (identity_words s.polygon) words long within item before turned
 
 -- what an error says that is handed on
 pub handed_on : {T : Type 0} (Q : TooLong → Type 0) (error : Wordless) (result : Result T Wordless) → IsErrAnd result (λ e. e ≡ error)

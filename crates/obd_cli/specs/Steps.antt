@@ -7,13 +7,15 @@ use Rattle.page_surface.specs.Polygon.{IsPolygon}
 use Rattle.arc_basis.specs.Basis.{joined_polygon}
 use Rattle.curve_paths.specs.Curves.{IsCurve}
 use Rattle.curve_paths.specs.Twists.{exits_of}
-use Rattle.drawing.specs.Points.{generators}
+use Rattle.drawing.specs.Points.{contact_generator, generators}
 use Rattle.hkm_diagram.specs.Domains.{columns}
 use Rattle.mod2_rank.specs.Linear.{IsOutcomeOf}
 use Rattle.witness_check.specs.Belonging.{IsFirstDrawing, LeadTo}
-use Rattle.witness_check.specs.OpenBook.{IsSurface, Surface as Shown, joined_surface}
+use Rattle.witness_check.specs.OpenBook.{IsSurface, Surface as Shown, arcs, joined_surface, seam_names}
 use Rattle.obd_doc.specs.declared.book.Book.{Book}
-use Rattle.obd_cli.specs.Opened.{open_book}
+use Rattle.obd_cli.specs.Opened.{open_book, paths_of}
+use Rattle.obd_cli.specs.declared.certify.LastLines.{LastLines}
+use Rattle.obd_cli.specs.declared.certify.PageLines.{PageLines}
 use Rattle.obd_cli.specs.declared.complex.Complex.{Complex}
 use Rattle.obd_cli.specs.declared.moves.Moved.{Moved}
 use Rattle.obd_cli.specs.declared.surface.Surface.{Surface}
@@ -32,6 +34,7 @@ pub record IsSurfaceOf (book : Book) (s : Surface) : Type 0 where
 -- the strands of the first drawing, and legal fingers that lead from it to a nice one; for now it is nice as it stands
 pub record IsMoved (first : Drawing) (m : Moved) : Type 0 where
   pub strands : m.strands ≡ first.strands
+  pub few : length m.fingers ≤ 20000
   pub leads : LeadTo first m.fingers m.last
   pub same : m.last ≡ first
 
@@ -52,3 +55,15 @@ pub record IsComplexOf (d : Drawing) (complex : Complex) : Type 0 where
   pub most : complex.generators ≤ 256
   pub concludes : IsOutcomeOf complex.generators (columns d) complex.outcome
   pub rank : complex.outcome.rank ≤ complex.generators
+
+-- the lines of the page are the book's and the surface's
+pub record ArePageLines (book : Book) (s : Surface) (lines : PageLines) : Type 0 where
+  pub polygons : lines.polygons ≡ book.page
+  pub curves : lines.curves ≡ paths_of book.curves
+  pub seams : lines.seams ≡ seam_names book.page
+  pub basis : lines.basis ≡ arcs (joined_polygon s.basis)
+
+-- the lines of the last drawing are a drawing's
+pub record AreLastLines (d : Drawing) (lines : LastLines) : Type 0 where
+  pub finals : lines.finals ≡ d.strands
+  pub points : lines.points ≡ contact_generator d

@@ -6,7 +6,7 @@ ghost use Rattle.drawing.specs.Points.{contact_generator, crossings_of};
 ghost use Rattle.obd_doc.specs.Document.{IsBook};
 ghost use Rattle.witness_check.specs.Belonging.{BelongsTo};
 ghost use Rattle.obd_cli.specs.Opened.{open_book, paths_of};
-ghost use Rattle.obd_cli.specs.Steps.{AreDrawings, IsComplexOf, IsSurfaceOf};
+ghost use Rattle.obd_cli.specs.Steps.{AreDrawings, AreLastLines, ArePageLines, IsComplexOf, IsSurfaceOf};
 
 use crate::complex::{Complex, complex_of};
 use crate::drawn::drawn;
@@ -14,7 +14,7 @@ use crate::moves::{Moved, moved, strands_of};
 use crate::surface::{Surface, surface_of};
 use curve_paths::{NamedPath, copied_path, page_names};
 use hkm_diagram::Diagram;
-use obd_base::{ArcNo, GenNo, Items, Name, NoMemory};
+use obd_base::{ArcNo, Exit, GenNo, Items, Name, NoMemory};
 use obd_doc::{Book, NamedCurve};
 use std::alloc::Global;
 use witness_check::Certificate;
@@ -53,6 +53,45 @@ fn homology(generators: u32, rank: u32) -> i32
     generators as i32 - 2 * rank as i32
 }
 
+// The lines that tell the book's page with its curves, and the surface's seams and arcs.
+#[derive(Drop)]
+struct PageLines {
+    polygons: Items<Items<Name>>,
+    curves: Items<NamedPath>,
+    seams: Items<Name>,
+    basis: Items<ArcNo>,
+}
+
+// These lines of a book and its surface.
+fn page_lines(alloc: Global, book: &Book, surface: &Surface) -> Result<PageLines, NoMemory>
+    requires { IsSurfaceOf book.now surface.now }
+    ensures { IfOk result (ArePageLines book.now surface.now) }
+{
+    Ok(PageLines {
+        polygons: page_names(alloc, &book.page)?,
+        curves: named_paths(alloc, book.curves.as_slice())?,
+        seams: surface.seam_names(alloc, &book.page)?,
+        basis: surface.arcs(alloc)?,
+    })
+}
+
+// The lines that tell the strands of the last drawing and the points of its contact generator.
+#[derive(Drop)]
+struct LastLines {
+    finals: Items<Items<Exit>>,
+    points: Items<u32>,
+}
+
+// These lines of a drawing.
+fn last_lines(alloc: Global, last: &Diagram) -> Result<LastLines, NoMemory>
+    ensures { IfOk result (AreLastLines last.now) }
+{
+    Ok(LastLines {
+        finals: strands_of(alloc, last.drawing())?,
+        points: contact_points(alloc, last)?,
+    })
+}
+
 // The certificate of a book from its surface, its drawings and the complex of the last one. Linear in the text that it
 // makes.
 fn certificate_of(
@@ -69,33 +108,27 @@ fn certificate_of(
     requires complex { IsComplexOf moved.last complex }
     ensures { IfOk result (BelongsTo (open_book book.now)) }
 {
-    let Moved {
-        strands,
-        fingers,
-        last,
-    } = moved;
-    let Complex {
-        generators,
-        outcome,
-    } = complex;
+    let page = page_lines(alloc, book, surface)?;
+    let last = last_lines(alloc, &moved.last)?;
+    let homology = homology(complex.generators, complex.outcome.rank);
     Ok(Certificate {
         version: 1,
-        polygons: page_names(alloc, &book.page)?,
-        curves: named_paths(alloc, book.curves.as_slice())?,
+        polygons: page.polygons,
+        curves: page.curves,
         slides: Items::new(alloc),
         twists: Items::new(alloc),
-        seams: surface.seam_names(alloc, &book.page)?,
-        basis: surface.arcs(alloc)?,
-        strands,
-        fingers,
-        finals: strands_of(alloc, last.drawing())?,
-        generators,
-        contact: GenNo::new(generators - 1),
-        points: contact_points(alloc, &last)?,
-        homology: homology(generators, outcome.rank),
-        pivots: outcome.pivots,
-        rank: outcome.rank,
-        verdict: outcome.verdict,
+        seams: page.seams,
+        basis: page.basis,
+        strands: moved.strands,
+        fingers: moved.fingers,
+        finals: last.finals,
+        generators: complex.generators,
+        contact: GenNo::new(complex.generators - 1),
+        points: last.points,
+        homology,
+        pivots: complex.outcome.pivots,
+        rank: complex.outcome.rank,
+        verdict: complex.outcome.verdict,
     })
 }
 

@@ -11,21 +11,11 @@ use obd_base::{Exit, Items, NoMemory, StrandNo};
 use std::alloc::Global;
 
 /// The exits of each strand in the first drawing, the fingers, and the diagram of the last drawing, to which they lead.
+#[derive(Drop)]
 pub(crate) struct Moved {
     pub(crate) strands: Items<Items<Exit>>,
     pub(crate) fingers: Items<Finger>,
     pub(crate) last: Diagram,
-}
-
-// By hand, so that a caller's proof holds one call and not the drop of each field.
-impl Drop for Moved {
-    fn drop(self) {
-        let Moved {
-            strands: _strands,
-            fingers: _fingers,
-            last: _last,
-        } = self;
-    }
 }
 
 // The exits of a strand, as a list of its own.

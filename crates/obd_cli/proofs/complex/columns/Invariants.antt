@@ -1,5 +1,5 @@
 use Rattle.std.proofs.Common.{◌≡◌, [], map, take}
-use Rattle.obd_cli.specs.Belongs.{rows_of}
+use Rattle.obd_cli.specs.Steps.{rows_of}
 use Rattle.obd_cli.proofs.complex.columns.Given as goal
 
 -- an empty column for each generator so far

@@ -1,6 +1,6 @@
 use Rattle.std.proofs.Common.{◌≡◌, take}
-use Rattle.obd_cli.specs.Belongs.{paths_of}
-use Rattle.obd_cli.proofs.identity.named_paths.Given as goal
+use Rattle.obd_cli.specs.Opened.{paths_of}
+use Rattle.obd_cli.proofs.certify.named_paths.Given as goal
 
 -- the curves so far
 abbrev pub invariant-loop-curve : goal.invariant-loop-curve

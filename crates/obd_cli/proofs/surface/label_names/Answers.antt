@@ -1,6 +1,6 @@
 use Rattle.std.proofs.Common.{refl}
 use Rattle.obd_cli.proofs.Named.{names_more}
-use Rattle.obd_cli.proofs.identity.label_names.Goals as goal
+use Rattle.obd_cli.proofs.surface.label_names.Goals as goal
 
 pub loop-label-preserved : goal.loop-label-preserved
 loop-label-preserved c =

@@ -2,7 +2,7 @@ use Rattle.std.proofs.Common.{◌≡◌, ◌∙◌, ap}
 use Rattle.obd_base.specs.declared.points.Point.{Point}
 use Rattle.drawing.specs.Points.{crossings_of}
 use Rattle.obd_cli.proofs.Collected.{collected_more}
-use Rattle.obd_cli.proofs.identity.contact_points.Goals as goal
+use Rattle.obd_cli.proofs.certify.contact_points.Goals as goal
 
 pub loop-arc-preserved : goal.loop-arc-preserved
 loop-arc-preserved c =

@@ -1,6 +1,6 @@
 use Rattle.std.proofs.Common.{◌≡◌, take}
-use Rattle.obd_cli.specs.Belongs.{names_of}
-use Rattle.obd_cli.proofs.identity.label_names.Given as goal
+use Rattle.obd_cli.specs.Opened.{names_of}
+use Rattle.obd_cli.proofs.surface.label_names.Given as goal
 
 -- the names of the labels so far
 abbrev pub invariant-loop-label : goal.invariant-loop-label
