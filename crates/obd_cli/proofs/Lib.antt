@@ -5,4 +5,6 @@ mod Listed
 mod Decides
 mod FirstWords
 mod Named
+mod NoFinger
+mod Surfaces
 mod WordsSoFar

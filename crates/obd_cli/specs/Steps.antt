@@ -29,6 +29,7 @@ pub record IsSurfaceOf (book : Book) (s : Surface) : Type 0 where
   pub basis : s.basis ≡ joined book.page
   pub surface : IsSurface (open_book book) (shown s)
   pub joined_so : shown s ≡ joined_surface (open_book book)
+  pub valid : IsPolygon (shown s).polygon
   pub curves : All (λ curve. IfSome curve (IsCurve (shown s).polygon)) s.curves
 
 -- the strands of the first drawing, and legal fingers that lead from it to a nice one; for now it is nice as it stands

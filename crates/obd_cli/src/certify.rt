@@ -10,7 +10,7 @@ ghost use Rattle.obd_cli.specs.Steps.{AreDrawings, AreLastLines, ArePageLines, I
 
 use crate::complex::{Complex, complex_of};
 use crate::drawn::drawn;
-use crate::moves::{Moved, moved, strands_of};
+use crate::moves::{Moved, make_nice, strands_of};
 use crate::surface::{Surface, surface_of};
 use curve_paths::{NamedPath, copied_path, page_names};
 use hkm_diagram::Diagram;
@@ -110,7 +110,16 @@ fn certificate_of(
 {
     let page = page_lines(alloc, book, surface)?;
     let last = last_lines(alloc, &moved.last)?;
-    let homology = homology(complex.generators, complex.outcome.rank);
+    let Moved {
+        strands,
+        fingers,
+        last: _last,
+    } = moved;
+    let Complex {
+        generators,
+        outcome,
+    } = complex;
+    let homology = homology(generators, outcome.rank);
     Ok(Certificate {
         version: 1,
         polygons: page.polygons,
@@ -119,16 +128,16 @@ fn certificate_of(
         twists: Items::new(alloc),
         seams: page.seams,
         basis: page.basis,
-        strands: moved.strands,
-        fingers: moved.fingers,
+        strands,
+        fingers,
         finals: last.finals,
-        generators: complex.generators,
-        contact: GenNo::new(complex.generators - 1),
+        generators,
+        contact: GenNo::new(generators - 1),
         points: last.points,
         homology,
-        pivots: complex.outcome.pivots,
-        rank: complex.outcome.rank,
-        verdict: complex.outcome.verdict,
+        pivots: outcome.pivots,
+        rank: outcome.rank,
+        verdict: outcome.verdict,
     })
 }
 
@@ -143,7 +152,7 @@ pub(crate) fn certify(alloc: Global, book: &Book) -> Result<Certificate, NoMemor
 {
     let surface = surface_of(alloc, book)?;
     let diagram = drawn(alloc, book, &surface)?;
-    let moved = moved(alloc, diagram)?;
+    let moved = make_nice(alloc, diagram)?;
     let complex = complex_of(alloc, &moved.last)?;
     certificate_of(alloc, book, &surface, moved, complex)
 }

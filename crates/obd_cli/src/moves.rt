@@ -1,7 +1,6 @@
 // The finger moves that make a drawing nice.
-ghost use Rattle.std.specs.Prelude.{◌≡◌, ◌<◌, map, IfOk};
-ghost use Rattle.obd_base.specs.Lists.{below};
-ghost use Rattle.page_surface.specs.Drawing.{identity, strand_exits};
+ghost use Rattle.std.specs.Prelude.{◌≡◌, ◌<◌, IfOk, OnOk};
+ghost use Rattle.page_surface.specs.Drawing.{IsEmbedded, identity, strand_exits};
 ghost use Rattle.page_surface.specs.Polygon.{arc_count};
 ghost use Rattle.obd_cli.specs.Steps.{IsMoved};
 
@@ -28,7 +27,8 @@ fn strand(drawing: &Drawing, strand: StrandNo) -> Result<Items<Exit>, NoMemory>
 
 /// The exits of each strand of a drawing. Linear in them.
 pub(crate) fn strands_of(alloc: Global, drawing: &Drawing) -> Result<Items<Items<Exit>>, NoMemory>
-    ensures { IfOk result (λ strands. strands ≡ drawing.now.strands) }
+    ensures strands { IfOk result (λ strands. strands ≡ drawing.now.strands) }
+    ensures valid { OnOk result (IsEmbedded drawing.now) }
 {
     let _ = drawing.points();
     let mut strands = Items::new(alloc);
@@ -39,7 +39,7 @@ pub(crate) fn strands_of(alloc: Global, drawing: &Drawing) -> Result<Items<Items
 }
 
 /// Makes the identity drawing nice: it is nice as it stands, so no finger is needed.
-pub(crate) fn moved(alloc: Global, diagram: Diagram) -> Result<Moved, NoMemory>
+pub(crate) fn make_nice(alloc: Global, diagram: Diagram) -> Result<Moved, NoMemory>
     requires { diagram ≡ identity diagram.polygon }
     ensures { IfOk result (IsMoved diagram) }
 {

@@ -2,6 +2,7 @@
 ghost use Rattle.std.specs.Prelude.{◌≡◌, ◌<◌, [], All, map, length, IfOk, IfSome};
 ghost use Rattle.arc_basis.specs.Basis.{joined_polygon};
 ghost use Rattle.curve_paths.specs.Curves.{IsCurve};
+ghost use Rattle.curve_paths.specs.Through.{exits_through};
 ghost use Rattle.curve_paths.specs.Twists.{exits_of};
 ghost use Rattle.page_surface.specs.Joining.{joined as joined_page};
 ghost use Rattle.page_surface.specs.Labels.{labels_of};
@@ -13,8 +14,8 @@ ghost use Rattle.obd_cli.specs.Steps.{IsSurfaceOf};
 use arc_basis::{Basis, join};
 use curve_paths::Curve;
 use obd_base::{ArcNo, Items, LabelNo, Name, NoMemory, SideNo};
-use obd_doc::Book;
-use page_surface::Page;
+use obd_doc::{Book, NamedCurve};
+use page_surface::{Page, Polygon};
 use std::alloc::Global;
 
 /// A page joined to one polygon, and curves on the polygon, by their numbers in the book: none where a curve crosses
@@ -34,8 +35,17 @@ impl Drop for Surface {
     }
 }
 
-// The curves on the joined polygon.
-fn curves_on(
+// A curve on the joined polygon, none where it crosses seams alone.
+fn joined_curve(named: &NamedCurve, basis: &Basis) -> Result<Option<Curve>, NoMemory>
+    requires { basis.now ≡ joined_page named.now.curve.page }
+    ensures exits { IfOk result (λ curve. exits_of curve ≡ exits_through named.now.curve.page named.now.curve.path) }
+    ensures curve { IfOk result (λ curve. IfSome curve (IsCurve (joined_polygon basis.now))) }
+{
+    named.curve.through(basis)
+}
+
+// The curves of a book on the joined polygon.
+fn joined_curves(
     alloc: Global,
     book: &Book,
     basis: &Basis,
@@ -47,7 +57,7 @@ fn curves_on(
 {
     let mut curves = Items::new(alloc);
     for named in book.curves.as_slice() {
-        curves.push(named.curve.through(basis)?)?;
+        curves.push(joined_curve(named, basis)?)?;
     }
     Ok(curves)
 }
@@ -60,7 +70,8 @@ pub(crate) fn surface_of(alloc: Global, book: &Book) -> Result<Surface, NoMemory
     ensures { IfOk result (IsSurfaceOf book.now) }
 {
     let basis = join(alloc, &book.page)?;
-    let curves = curves_on(alloc, book, &basis)?;
+    let curves = joined_curves(alloc, book, &basis)?;
+    let _ = basis.polygon().sides();
     Ok(Surface { basis, curves })
 }
 
@@ -76,6 +87,17 @@ fn label_names(alloc: Global, page: &Page, labels: &[LabelNo]) -> Result<Items<N
     Ok(names)
 }
 
+// The arc of each side of a polygon.
+fn side_arcs(alloc: Global, polygon: &Polygon) -> Result<Items<ArcNo>, NoMemory>
+    ensures { IfOk result (λ arcs. arcs ≡ arcs_of polygon.now) }
+{
+    let mut arcs = Items::new(alloc);
+    for side in 0..polygon.sides() {
+        arcs.push(polygon.arc(SideNo::new(side)))?;
+    }
+    Ok(arcs)
+}
+
 impl Surface {
     /// The names of the labels that became seams. Linear in the text that they make.
     pub(crate) fn seam_names(&self, alloc: Global, page: &Page) -> Result<Items<Name>, NoMemory>
@@ -89,11 +111,6 @@ impl Surface {
     pub(crate) fn arcs(&self, alloc: Global) -> Result<Items<ArcNo>, NoMemory>
         ensures { IfOk result (λ arcs. arcs ≡ arcs_of (joined_polygon self.now.basis)) }
     {
-        let polygon = self.basis.polygon();
-        let mut arcs = Items::new(alloc);
-        for side in 0..polygon.sides() {
-            arcs.push(polygon.arc(SideNo::new(side)))?;
-        }
-        Ok(arcs)
+        side_arcs(alloc, self.basis.polygon())
     }
 }

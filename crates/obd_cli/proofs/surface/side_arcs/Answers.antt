@@ -1,7 +1,7 @@
 use Rattle.std.proofs.Common.{◌∙◌, ap}
 use Rattle.page_surface.specs.Polygon.{arc}
 use Rattle.obd_cli.proofs.Collected.{collected_more}
-use Rattle.obd_cli.proofs.surface.Surface.arcs.Goals as goal
+use Rattle.obd_cli.proofs.surface.side_arcs.Goals as goal
 
 pub loop-side-preserved : goal.loop-side-preserved
 loop-side-preserved c =
