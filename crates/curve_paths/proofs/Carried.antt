@@ -83,21 +83,21 @@ one_side s t ls lt = elim (cases_Bool (eqb s.label t.label)) [
 ]
 
 module _ (page : List (List Label)) (valid : IsPage page) (cs : List Crossing) (placed : ArePlaced page cs) where
-  abbrev polygon : Polygon
+  abbrev pub polygon : Polygon
   polygon = polygon_of (row page)
 
-  abbrev at : ℕ → SideLabel
+  abbrev pub at : ℕ → SideLabel
   at k = get_or (row page) k none
 
   -- which side of the polygon it is
   abbrev pub place : SideLabel → ℕ
   place s = position_or_len (is_side s) (row page)
 
-  abbrev IsNamed : SideLabel → Type 0
+  abbrev pub IsNamed : SideLabel → Type 0
   IsNamed s = (s.label < length (labels_of page)) × (s.occurrence ≤ 1)
 
   -- it stands there
-  stands_there : (s : SideLabel) → IsNamed s → (place s < length (row page)) × (at (place s) ≡ s)
+  pub stands_there : (s : SideLabel) → IsNamed s → (place s < length (row page)) × (at (place s) ≡ s)
   stands_there s n =
       let found = found_place (is_side s) (row page) (any_counted (is_side s) (row page) (omega (arith, once_in_row page valid s.label s.occurrence n.0 n.1))) in
       let (within, passes, _) = position-Some (is_side s) (row page) (place s) none found in
@@ -115,7 +115,7 @@ module _ (page : List (List Label)) (valid : IsPage page) (cs : List Crossing) (
   named_other : (s : SideLabel) → IsNamed s → IsNamed (other_side s)
   named_other s n = (n.0, omega arith)
 
-  size : sides polygon ≡ length (row page)
+  pub size : sides polygon ≡ length (row page)
   size = length-map (row page) (λ s. place (other_side s))
 
   -- the partner of a side is its label's other side
@@ -147,11 +147,11 @@ module _ (page : List (List Label)) (valid : IsPage page) (cs : List Crossing) (
       (λ c m. one_side c.side t (placed.named c m).1 nt.1) in
       omega (arith, exits, entries, both, each)
 
-  points_of : (s : SideLabel) → IsNamed s → curve_points polygon outs (place s) ≡ label_points cs s.label
+  pub points_of : (s : SideLabel) → IsNamed s → curve_points polygon outs (place s) ≡ label_points cs s.label
   points_of s n = let t = stands_there s n in points_at (place s) t.0 ∙ ap (λ (t : SideLabel). label_points cs t.label) t.1
 
   -- a place on a side is below the number of its points
-  place_on_below : (s : SideLabel) (q : ℕ) → s.occurrence ≤ 1 → q < label_points cs s.label → place_on cs s q < label_points cs s.label
+  pub place_on_below : (s : SideLabel) (q : ℕ) → s.occurrence ≤ 1 → q < label_points cs s.label → place_on cs s q < label_points cs s.label
   place_on_below s q l h = elim (cases_eq s.occurrence 0) [
     | inl e ↦ rw (eq-eqb s.occurrence 0 e) h
     | inr ne ↦ rw (ne_eqb s.occurrence 0 ne) (omega arith)
@@ -174,11 +174,11 @@ module _ (page : List (List Label)) (valid : IsPage page) (cs : List Crossing) (
       (omega (arith, size, (stands_there c.side n).0), omega (arith, points_of c.side n, place_on_below c.side c.place n.1 (placed.placed c k)))
 
   -- the place of the label at which place j of a side lies
-  abbrev from_start : SideLabel → ℕ → ℕ
+  abbrev pub from_start : SideLabel → ℕ → ℕ
   from_start t j = place_on cs t j
 
   -- how often an exit stands at place j of side k is whether its crossing is at that place of the label
-  stands_once : (k j : ℕ) → (l : k < length (row page)) → j < label_points cs (at k).label → (c : Crossing) → Mem c cs
+  pub stands_once : (k j : ℕ) → (l : k < length (row page)) → j < label_points cs (at k).label → (c : Crossing) → Mem c cs
       → curve_stands polygon outs (out c) k j ≡ bit (is_met_at (at k).label (from_start (at k) j) c)
   stands_once k j l lj c m =
       let t : SideLabel = at k in
@@ -225,14 +225,14 @@ module _ (page : List (List Label)) (valid : IsPage page) (cs : List Crossing) (
       ap₂ exit (partner_place c.side n)
       (ap (λ x. x - 1 - place_on cs c.side c.place) (points_of c.side n) ∙ sym (place_on_other c.side c.place n.1 (placed.placed c m)))
 
-  many : length outs ≡ length cs
+  pub many : length outs ≡ length cs
   many = length-map cs out
 
   out_at : (i : ℕ) → i < length cs → exit_at outs i ≡ out (crossing_at cs i)
   out_at i l = get_or-map out cs i _ _ l
 
   -- each chord of the exits is a chord of the path, the one before
-  chord_is : (i : ℕ) → i < length cs → curve_chord polygon outs i ≡ path_chord page cs (previous (length cs) i)
+  pub chord_is : (i : ℕ) → i < length cs → curve_chord polygon outs i ≡ path_chord page cs (previous (length cs) i)
   chord_is i l =
       let j : ℕ = previous (length cs) i in
       let lj = previous_within (length cs) i l in

@@ -12,6 +12,7 @@ use Rattle.page_surface.specs.declared.page.SideLabel.{SideLabel}
 use Rattle.page_surface.specs.Drawing.{crosses, exit}
 use Rattle.page_surface.specs.Joining.{Joined, is_side, other_side, is_split, join_all, joined, polygon_of}
 use Rattle.page_surface.specs.Labels.{Label, all_sides, labels_of, side_labels_of}
+use Rattle.page_surface.specs.Page.{IsPage}
 use Rattle.page_surface.specs.Polygon.{IsPolygon, Polygon}
 use Rattle.page_surface.proofs.Laws.{paired_is_polygon}
 use Rattle.arc_basis.specs.Basis.{joined_polygon, joined_sides, label_count}
@@ -117,7 +118,7 @@ unjoined (label ∷ labels) polygons e = elim (cases_Bool (is_split label polygo
 
 -- so without a seam the joined sides are the page's row
 module _ (page : List (List Label)) (j : Joined) (is : j ≡ joined page) (no_seam : j.seams ≡ []) where
-  whole_sides : joined_sides j ≡ row page
+  pub whole_sides : joined_sides j ≡ row page
   whole_sides =
       ap joined_sides is ∙ ap (flat_map (λ polygon. polygon)) (unjoined (below (length (labels_of page))) (side_labels_of [] page) (sym (ap (λ (k : Joined). k.seams) is) ∙ no_seam))
 
@@ -131,27 +132,36 @@ kept_all : {X Y : Type 0} (f : X → Option Y) (g : X → Y) (xs : List X) → (
 kept_all f g [] h = refl
 kept_all f g (x ∷ xs) h = ap₂ cons_option (h x (inl refl)) (kept_all f g xs (λ y m. h y (inr m)))
 
-module _ (page : List (List Label)) (path : List Cross) (numbered : List Crossing) (counts : List ℕ) (kept : IsPathKept page path numbered counts)
-    (j : Joined) (is : j ≡ joined page) (no_seam : j.seams ≡ []) where
-  placed : ArePlaced page (crossings page path)
-  placed = crossings_placed page path (known page path kept.is_path) kept.occurrences (few page path kept.is_path) (sym (no_wrong page path kept.is_path))
-
-  -- the row has a side, and its sides pair off
-  some_side : 0 < length (row page)
-  some_side =
-      let l : 0 < length (crossings page path) = omega (arith, length-map path (crossing page), eqb-false (length path) 0 (some_crossing page path kept.is_path)) in
-      let n = placed.named (crossing_at (crossings page path) 0) (mem_at (crossings page path) 0 (crossing_at [] 0) l) in
-      longer (row page) _ (there_in_row page kept.is_page (crossing_at (crossings page path) 0).side.label 0 n.0 (omega arith))
+module _ (page : List (List Label)) (valid : IsPage page) (cs : List Crossing) (placed : ArePlaced page cs) where
+  -- a page with a crossing has a side, and its sides pair off
+  pub row_polygon : 0 < length cs → IsPolygon (polygon_of (row page))
+  row_polygon l =
+      let n = placed.named (crossing_at cs 0) (mem_at cs 0 (crossing_at [] 0) l) in
+      let some : 0 < length (row page) = longer (row page) _ (there_in_row page valid (crossing_at cs 0).side.label 0 n.0 (omega arith)) in
+      let partners : List ℕ = map (λ s. position_or_len (is_side (other_side s)) (row page)) (row page) in
+      paired_is_polygon partners (omega (arith, some, length-map (row page) (λ s. position_or_len (is_side (other_side s)) (row page))))
+      (sides_pair (row page) (length (labels_of page)) (named_in_row page valid) (once_in_row page valid))
     where
       longer : {X : Type 0} (xs : List X) (x : X) → Mem x xs → 0 < length xs
       longer [] x m = absurd m
       longer (y ∷ xs) x m = omega arith
 
-  row_polygon : IsPolygon (polygon_of (row page))
-  row_polygon =
-      let partners : List ℕ = map (λ s. position_or_len (is_side (other_side s)) (row page)) (row page) in
-      paired_is_polygon partners (omega (arith, some_side, length-map (row page) (λ s. position_or_len (is_side (other_side s)) (row page))))
-      (sides_pair (row page) (length (labels_of page)) (named_in_row page kept.is_page) (once_in_row page kept.is_page))
+  -- where no side is lost, each crossing has an exit
+  pub outs_made : (j : Joined) → joined_sides j ≡ row page → filter_map (exit_through j cs) cs ≡ outs page valid cs placed
+  outs_made j whole =
+      kept_all (exit_through j cs) (out page valid cs placed) cs
+      (λ c m. let n = placed.named c m in
+      ap (λ sides. option_map (λ s. exit s (place_on cs c.side c.place)) (position (is_side c.side) sides)) whole
+      ∙ ap (option_map (λ s. exit s (place_on cs c.side c.place)))
+      (found_place (is_side c.side) (row page) (any_counted (is_side c.side) (row page) (omega (arith, once_in_row page valid c.side.label c.side.occurrence n.0 n.1)))))
+
+module _ (page : List (List Label)) (path : List Cross) (numbered : List Crossing) (counts : List ℕ) (kept : IsPathKept page path numbered counts)
+    (j : Joined) (is : j ≡ joined page) (no_seam : j.seams ≡ []) where
+  placed : ArePlaced page (crossings page path)
+  placed = crossings_placed page path (known page path kept.is_path) kept.occurrences (few page path kept.is_path) (sym (no_wrong page path kept.is_path))
+
+  some : 0 < length (crossings page path)
+  some = omega (arith, length-map path (crossing page), eqb-false (length path) 0 (some_crossing page path kept.is_path))
 
   -- what is asked where the exits are made
   pub are_on : (d : List Crossing) (e : List ℕ) → d ≡ numbered → e ≡ counts → AreOn j d e
@@ -173,18 +183,17 @@ module _ (page : List (List Label)) (path : List Cross) (numbered : List Crossin
     all_out : exits ≡ outs page kept.is_page (crossings page path) placed
     all_out =
         made ∙ (ap (λ (cs : List Crossing). filter_map (exit_through j cs) cs) by_number
-        ∙ kept_all (exit_through j (crossings page path)) (out page kept.is_page (crossings page path) placed) (crossings page path)
-        (λ c m. let n = placed.named c m in
-        ap (λ sides. option_map (λ s. exit s (place_on (crossings page path) c.side c.place)) (position (is_side c.side) sides)) (whole_sides page j is no_seam)
-        ∙ ap (option_map (λ s. exit s (place_on (crossings page path) c.side c.place)))
-        (found_place (is_side c.side) (row page) (any_counted (is_side c.side) (row page) (omega (arith, once_in_row page kept.is_page c.side.label c.side.occurrence n.0 n.1))))))
+        ∙ outs_made page kept.is_page (crossings page path) placed j (whole_sides page j is no_seam))
 
     pub few_exits : length exits ≤ 32
     few_exits = omega (arith, ap length all_out, length-map (crossings page path) (out page kept.is_page (crossings page path) placed), placed.few)
+
+    pub some_exit : 0 < length exits
+    some_exit = omega (arith, ap length all_out, length-map (crossings page path) (out page kept.is_page (crossings page path) placed), some)
 
     -- and they are a curve of the joined polygon
     pub through_curve : (polygon : Polygon) → polygon ≡ joined_polygon j → IsCurve polygon exits
     through_curve polygon e =
         let here : polygon ≡ polygon_of (row page) = e ∙ ap polygon_of (whole_sides page j is no_seam) in
-        let curve = outs_curve page kept.is_page (crossings page path) placed row_polygon (right page path kept.is_path) (clear page path kept.is_path) in
+        let curve = outs_curve page kept.is_page (crossings page path) placed (row_polygon page kept.is_page (crossings page path) placed some) (right page path kept.is_path) (clear page path kept.is_path) in
         subst (λ (q : Polygon). IsCurve q exits) (sym here) (subst (λ (es : List Exit). IsCurve (polygon_of (row page)) es) (sym all_out) curve)

@@ -1,3 +1,4 @@
+mod Accepted
 mod PathChords
 pub mod PathExamples
 mod Built
@@ -8,6 +9,7 @@ mod Exits
 mod Finds
 mod Kept
 mod LabelPlaces
+pub mod Laws
 mod Numbers
 mod Orders
 pub mod Ranges

@@ -90,10 +90,14 @@ passed p u v = let n = sides p in map (λ i. (u + 1 + i) % n) (below ((v + n - u
 abbrev pub gap_before : Polygon → ℕ → ℕ
 gap_before p s = (s + sides p - 1) % sides p
 
--- the image of a word that runs from gap u to gap v
+-- a word that runs from gap u to gap v, with a word set for each side that is passed
+abbrev pub with_words : Polygon → (ℕ → List ℕ) → List ℕ → ℕ → ℕ → List ℕ
+with_words p set [] u v = flat_map set (passed p u v)
+with_words p set (s ∷ w) u v = flat_map set (passed p u (gap_before p s)) ++ (s ∷ with_words p set w (partner p s) v)
+
+-- the image of a word under a twist: along each side that is passed its push is set
 abbrev pub image : Polygon → List Exit → Sign → List ℕ → ℕ → ℕ → List ℕ
-image p c sign [] u v = flat_map (push_at p c sign) (passed p u v)
-image p c sign (s ∷ w) u v = flat_map (push_at p c sign) (passed p u (gap_before p s)) ++ (s ∷ image p c sign w (partner p s) v)
+image p c sign w u v = with_words p (push_at p c sign) w u v
 
 -- one single twist on the words of all strands; strand i runs from the gap after its arc's second side to the gap after its first side
 abbrev pub twisted : Polygon → List Exit → Sign → List (List ℕ) → List (List ℕ)

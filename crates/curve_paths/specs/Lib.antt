@@ -5,3 +5,4 @@ pub mod PathTables
 pub mod Paths
 pub mod PlaceTables
 pub mod Through
+pub mod Twists

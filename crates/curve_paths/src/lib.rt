@@ -15,8 +15,10 @@ mod joined;
 mod path;
 mod places;
 mod refusal;
+mod twist;
 
 pub use copies::{copied_path, page_names};
 pub use curve::Curve;
 pub use path::{Cross, PageCurve};
 pub use refusal::CurveRefusal;
+pub use twist::{TooLong, Twist};

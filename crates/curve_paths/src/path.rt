@@ -1,5 +1,5 @@
 // A curve on a page, given by its crossings with labels.
-ghost use Rattle.std.specs.Prelude.{◌≡◌, ◌≢◌, ◌<◌, ◌≤◌, ◌^◌, ◌↔◌, [], map, length, filter_map, None, Some, IfOk, IfErr, IfSome, OnOk};
+ghost use Rattle.std.specs.Prelude.{◌≡◌, ◌≢◌, ◌<◌, ◌≤◌, ◌^◌, ◌↔◌, [], map, length, filter_map, None, Some, IfOk, IfErr, IfSome, IsSome, OnOk};
 ghost use Rattle.obd_base.specs.Lists.{below};
 ghost use Rattle.page_surface.specs.Joining.{joined};
 
@@ -117,10 +117,11 @@ impl PageCurve {
     }
 
     /// The curve on the polygon that the page is joined to: the crossings with seams are left out. `None`
-    /// exactly where the path crosses seams alone. Linear in the path.
+    /// exactly where the path crosses seams alone, so never on a page of one polygon. Linear in the path.
     pub fn through(&self, basis: &Basis) -> Result<Option<Curve>, NoMemory>
         requires { basis.now ≡ joined self.now.page }
         ensures seams { IfOk result (λ found. (found ≡ None) ↔ (exits_through self.now.page self.now.path ≡ [])) }
+        ensures one { length self.now.page ≡ 1 → IfOk result (λ found. IsSome found) }
         ensures exits { IfOk result (λ found. IfSome found (λ curve. curve ≡ exits_through self.now.page self.now.path)) }
         ensures curve { IfOk result (λ found. IfSome found (λ curve. IsCurve (joined_polygon basis.now) curve)) }
     {

@@ -4,6 +4,7 @@ use Rattle.std.specs.Io.KnownBytes.{Consumes, Appends, IsAtEnd}
 use Rattle.std.proofs.lemmas.Bool.{lt-ltb, le-ltb}
 use Rattle.std.proofs.lemmas.List.{append-nil}
 use Rattle.std.specs.Option.{option_map_or}
+use Rattle.curve_paths.specs.declared.twist.TooLong.{TooLong}
 use Rattle.obd_doc.specs.Document.{book_read, refusal_of}
 use Rattle.obd_doc.specs.declared.book.Book.{Book}
 use Rattle.obd_doc.specs.declared.refusal.DocRefusal.{DocRefusal}
@@ -14,7 +15,6 @@ use Rattle.obd_cli.specs.declared.status.Command.TheVariants as command
 use Rattle.obd_cli.specs.declared.status.Answer.{Answer}
 use Rattle.obd_cli.specs.declared.status.Status.{Status}
 use Rattle.obd_cli.specs.declared.status.Status.TheVariants as status
-use Rattle.obd_cli.specs.declared.words.TooLong.{TooLong}
 use Rattle.obd_cli.specs.declared.top.TheConstants.{DOCUMENT_LIMIT}
 
 -- an answer with Done is one to a book that is taken

@@ -2,6 +2,7 @@ mod Built
 mod Collected
 mod Listed
 mod Decides
+mod FirstWords
 mod Joined
 mod Made
 mod Named

@@ -3,7 +3,7 @@ use Rattle.std.proofs.Common.{◌≡◌, ℕ, ◌+◌, List, [], ◌∷◌, ◌+
 use Rattle.std.specs.List.{enumerate_from, flat_map}
 use Rattle.std.proofs.lemmas.List.{append-nil, take_more}
 use Rattle.std.proofs.lemmas.List.Concat.{flat_map-append}
-use Rattle.twist_words.proofs.Numbered.{enumerated_more}
+use Rattle.path_words.proofs.Numbered.{enumerated_more}
 use Rattle.obd_cli.specs.Line.{line, lines, row_lines}
 
 -- the lines of one row more

@@ -2,18 +2,18 @@
 use Rattle.std.proofs.Common.{◌≡◌, ℕ, suc, ◌+◌, ◌<◌, List, [], ◌∷◌, length, drop, get_or, sym, ◌∙◌, ap, arith}
 use Rattle.std.proofs.Math.ListN.{drop_of_length-le}
 use Rattle.std.proofs.Math.Seq.{drop-cons}
-use Rattle.std.specs.Prelude.{Result, Ok, Err, IfErr, slice_index_or}
+use Rattle.std.specs.Prelude.{Result, Ok, Err, IfErr}
 use Rattle.std.specs.Result.{IsErrAnd}
 use Rattle.obd_base.specs.declared.points.Exit.{Exit}
 use Rattle.page_surface.specs.Joining.{Joined, joined}
 use Rattle.page_surface.specs.Polygon.{Polygon}
 use Rattle.arc_basis.specs.Basis.{joined_polygon}
 use Rattle.curve_paths.specs.Curves.{identity_words}
-use Rattle.twist_words.specs.Powers.{by_power}
+use Rattle.curve_paths.specs.Twists.{by_entries, by_entry, going_on}
+use Rattle.curve_paths.specs.declared.twist.Twist.{Twist}
+use Rattle.curve_paths.specs.declared.twist.TooLong.{TooLong}
 use Rattle.obd_doc.specs.declared.book.Book.{Book}
-use Rattle.obd_doc.specs.declared.book.Twist.{Twist}
-use Rattle.obd_cli.specs.Words.{book_words, by_entries, curve_exits, following, numbered}
-use Rattle.obd_cli.specs.declared.words.TooLong.{TooLong}
+use Rattle.obd_cli.specs.Words.{book_words, curve_exits}
 use Rattle.obd_cli.specs.declared.words.Wordless.{Wordless}
 use Rattle.obd_cli.specs.declared.words.Wordless.TheVariants.{TooLong as Long}
 
@@ -24,23 +24,23 @@ dropped_next xs i x within = let moved : suc i ≡ i + 1 = omega arith in drop-c
 module _ (p : Polygon) (curves : List (List Exit)) (twists : List Twist) where
   -- what is left starts with the next entry
   entries_next : (i : ℕ) (twist other : Twist) (words : List (List ℕ)) → i < length twists → twist ≡ get_or twists i other
-      → by_entries p curves i (drop i twists) words ≡ following (by_entries p curves (i + 1) (drop (i + 1) twists)) (numbered i (by_power p (slice_index_or curves twist.curve []) twist.power words))
+      → by_entries p curves i (drop i twists) words ≡ going_on (by_entries p curves (i + 1) (drop (i + 1) twists)) (by_entry p curves i twist words)
   entries_next i twist other words within is =
       let next : drop i twists ≡ twist ∷ drop (i + 1) twists = dropped_next twists i other within ∙ ap (λ t. t ∷ drop (i + 1) twists) (sym is) in
       let moved : suc i ≡ i + 1 = omega arith in
-      ap (λ ts. by_entries p curves i ts words) next ∙ ap (λ n. following (by_entries p curves n (drop (i + 1) twists)) (numbered i (by_power p (slice_index_or curves twist.curve []) twist.power words))) moved
+      ap (λ ts. by_entries p curves i ts words) next ∙ ap (λ n. going_on (by_entries p curves n (drop (i + 1) twists)) (by_entry p curves i twist words)) moved
 
   -- words after one entry more
   pub entries_more : (i : ℕ) (twist other : Twist) (first words now : List (List ℕ)) → i < length twists → twist ≡ get_or twists i other
-      → by_entries p curves 0 twists first ≡ by_entries p curves i (drop i twists) words → numbered i (by_power p (slice_index_or curves twist.curve []) twist.power words) ≡ Ok now
+      → by_entries p curves 0 twists first ≡ by_entries p curves i (drop i twists) words → by_entry p curves i twist words ≡ Ok now
       → by_entries p curves 0 twists first ≡ by_entries p curves (i + 1) (drop (i + 1) twists) now
-  entries_more i twist other first words now within is before turned = before ∙ (entries_next i twist other words within is ∙ ap (following (by_entries p curves (i + 1) (drop (i + 1) twists))) turned)
+  entries_more i twist other first words now within is before turned = before ∙ (entries_next i twist other words within is ∙ ap (going_on (by_entries p curves (i + 1) (drop (i + 1) twists))) turned)
 
   -- an entry in which the words become too long
   pub entries_long : (i : ℕ) (twist other : Twist) (first words : List (List ℕ)) (long : TooLong) → i < length twists → twist ≡ get_or twists i other
-      → by_entries p curves 0 twists first ≡ by_entries p curves i (drop i twists) words → numbered i (by_power p (slice_index_or curves twist.curve []) twist.power words) ≡ Err long
+      → by_entries p curves 0 twists first ≡ by_entries p curves i (drop i twists) words → by_entry p curves i twist words ≡ Err long
       → by_entries p curves 0 twists first ≡ Err long
-  entries_long i twist other first words long within is before turned = before ∙ (entries_next i twist other words within is ∙ ap (following (by_entries p curves (i + 1) (drop (i + 1) twists))) turned)
+  entries_long i twist other first words long within is before turned = before ∙ (entries_next i twist other words within is ∙ ap (going_on (by_entries p curves (i + 1) (drop (i + 1) twists))) turned)
 
   -- no entry is left
   pub entries_all : (i : ℕ) (first now : List (List ℕ)) → i ≡ length twists → by_entries p curves 0 twists first ≡ by_entries p curves i (drop i twists) now → by_entries p curves 0 twists first ≡ Ok now
@@ -57,7 +57,7 @@ book_all book j i now is end before =
 -- and when they become too long in an entry
 pub book_long : (book : Book) (j : Joined) (i : ℕ) (twist other : Twist) (words : List (List ℕ)) (long : TooLong) → j ≡ joined book.page → i < length book.twists → twist ≡ get_or book.twists i other
     → by_entries (joined_polygon j) (curve_exits book) 0 book.twists (identity_words (joined_polygon j)) ≡ by_entries (joined_polygon j) (curve_exits book) i (drop i book.twists) words
-    → numbered i (by_power (joined_polygon j) (slice_index_or (curve_exits book) twist.curve []) twist.power words) ≡ Err long → book_words book ≡ Err long
+    → by_entry (joined_polygon j) (curve_exits book) i twist words ≡ Err long → book_words book ≡ Err long
 unfolding book_words
 book_long book j i twist other words long is within item before turned =
     sym (ap (λ (j : Joined). by_entries (joined_polygon j) (curve_exits book) 0 book.twists (identity_words (joined_polygon j))) is)

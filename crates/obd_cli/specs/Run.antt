@@ -4,6 +4,7 @@ use Rattle.std.specs.Option.{option_map_or}
 use Rattle.std.specs.Str.{bytes_eq}
 use Rattle.std.specs.Io.KnownBytes.{Consumes, Appends, IsAtEnd}
 use Rattle.obd_base.specs.Streams.{TookPrefix}
+use Rattle.curve_paths.specs.declared.twist.TooLong.{TooLong}
 use Rattle.obd_doc.specs.Document.{book_read, refusal_of}
 use Rattle.obd_doc.specs.declared.book.Book.{Book}
 use Rattle.obd_doc.specs.declared.refusal.DocRefusal.{DocRefusal}
@@ -17,7 +18,6 @@ use Rattle.obd_cli.specs.declared.status.Command.{Command}
 use Rattle.obd_cli.specs.declared.status.Command.TheVariants as command
 use Rattle.obd_cli.specs.declared.status.Status.{Status}
 use Rattle.obd_cli.specs.declared.status.Status.TheVariants as status
-use Rattle.obd_cli.specs.declared.words.TooLong.{TooLong}
 use Rattle.obd_cli.specs.declared.top.TheConstants.{DOCUMENT_LIMIT}
 
 -- the command that the words are, if they are one

@@ -1,43 +1,25 @@
 -- The words of a book's strands after its twist word, and the text of the command `page`.
-use Rattle.std.specs.Prelude.{ℕ, suc, List, [], ◌∷◌, ◌++◌, codes, decimal, length, map, slice_index_or, Result, Ok, Err}
+use Rattle.std.specs.Prelude.{ℕ, List, [], ◌∷◌, ◌++◌, codes, decimal, length, map, Result}
 use Rattle.obd_base.specs.Lists.{below}
 use Rattle.obd_base.specs.declared.points.Exit.{Exit}
 use Rattle.page_surface.specs.Joining.{page_polygon}
 use Rattle.page_surface.specs.Labels.{Label}
-use Rattle.page_surface.specs.Polygon.{Polygon, arc, sides}
-use Rattle.curve_paths.specs.Curves.{identity_words}
+use Rattle.page_surface.specs.Polygon.{arc, sides}
 use Rattle.curve_paths.specs.Through.{exits_through}
-use Rattle.twist_words.specs.Powers.{by_power}
+use Rattle.curve_paths.specs.Twists.{words_after}
+use Rattle.curve_paths.specs.declared.twist.TooLong.{TooLong}
 use Rattle.obd_doc.specs.declared.book.Book.{Book}
-use Rattle.obd_doc.specs.declared.book.Twist.{Twist}
 use Rattle.obd_cli.specs.Belongs.{seam_names}
 use Rattle.obd_cli.specs.Line.{line, row_lines}
 use Rattle.obd_cli.specs.Refused.{refused_line}
-use Rattle.obd_cli.specs.declared.words.TooLong.{TooLong}
 
 -- the exits of the book's curves on the joined polygon
 abbrev pub curve_exits : Book → List (List Exit)
 curve_exits book = map (λ curve. exits_through book.page curve.path) book.curves
 
--- the words after one entry; else its number, with how many letters they have
-abbrev pub numbered : ℕ → Result (List (List ℕ)) ℕ → Result (List (List ℕ)) TooLong
-numbered number (Ok words) = Ok words
-numbered number (Err letters) = Err (record { twist = number; letters = letters })
-
--- what follows on words, where there are some
-abbrev pub following : (List (List ℕ) → Result (List (List ℕ)) TooLong) → Result (List (List ℕ)) TooLong → Result (List (List ℕ)) TooLong
-following next (Ok words) = next words
-following next (Err long) = Err long
-
--- the words after some entries of the twist word, the first one first; the entries are numbered from a number on
-abbrev pub by_entries : Polygon → List (List Exit) → ℕ → List Twist → List (List ℕ) → Result (List (List ℕ)) TooLong
-by_entries p curves number [] words = Ok words
-by_entries p curves number (twist ∷ twists) words =
-    following (by_entries p curves (suc number) twists) (numbered number (by_power p (slice_index_or curves twist.curve []) twist.power words))
-
 -- the words of the book's strands, from those of the identity
 unfoldable pub book_words : Book → Result (List (List ℕ)) TooLong
-book_words book = by_entries (page_polygon book.page) (curve_exits book) 0 book.twists (identity_words (page_polygon book.page))
+book_words book = words_after (page_polygon book.page) (curve_exits book) book.twists
 
 -- the lines of the seams and of the basis, and a line with the word of each strand
 abbrev pub lines_of : List Label → List ℕ → List (List ℕ) → List ℕ

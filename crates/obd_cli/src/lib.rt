@@ -6,6 +6,7 @@
 
 mod certificate;
 mod complex;
+mod first_words;
 mod identity;
 mod line;
 mod page;

@@ -3,24 +3,17 @@ ghost use Rattle.std.specs.Prelude.{◌≡◌, ℕ, Ok, Err, IfOk, IfErr, IfSome
 ghost use Rattle.arc_basis.specs.Basis.{joined_polygon};
 ghost use Rattle.curve_paths.specs.Curves.{IsCurve};
 ghost use Rattle.page_surface.specs.Joining.{joined};
-ghost use Rattle.twist_words.specs.Powers.{AreWords, exits_of, by_power as words_by_power};
+ghost use Rattle.curve_paths.specs.Twists.{AreWords, by_entry, by_power as words_by_power, exits_of};
 ghost use Rattle.obd_doc.specs.Document.{IsBook};
-ghost use Rattle.obd_cli.specs.Words.{book_words as words_of_book, curve_exits, numbered};
+ghost use Rattle.obd_cli.specs.Words.{book_words as words_of_book, curve_exits};
 
+use crate::first_words::identity_words;
 use arc_basis::Basis;
-use curve_paths::Curve;
+use curve_paths::{Curve, TooLong, Twist};
 use obd_base::{Items, NoMemory, SideNo};
-use obd_doc::{Book, Twist};
+use obd_doc::Book;
+use path_words::{TwistRefusal, by_power};
 use std::alloc::Global;
-use twist_words::{TwistRefusal, by_power, identity_words};
-
-/// The entry of the twist word, counted from 0, in which the words of all strands become too long, and how many
-/// letters they have together then.
-#[derive(Clone, Copy, Debug, PartialEq, Eq)]
-pub(crate) struct TooLong {
-    pub(crate) twist: u64,
-    pub(crate) letters: u64,
-}
 
 /// Why there are no words.
 #[derive(Clone, Copy, Debug, PartialEq, Eq)]
@@ -85,10 +78,10 @@ fn after_entry(
     requires book { IsBook book.now }
     requires basis { basis.now ≡ joined book.now.page }
     requires words { AreWords (joined_polygon basis.now) words }
-    ensures turned { IfOk result (λ now. numbered number (words_by_power (joined_polygon basis.now) (slice_index_or (curve_exits book.now) twist.now.curve []) twist.now.power words) ≡ Ok now) }
+    ensures turned { IfOk result (λ now. by_entry (joined_polygon basis.now) (curve_exits book.now) number twist.now words ≡ Ok now) }
     ensures words { IfOk result (λ now. AreWords (joined_polygon basis.now) now) }
     ensures long { IfErr result (λ refusal. (long : TooLong) → refusal ≡ Wordless.TooLong long
-        → numbered number (words_by_power (joined_polygon basis.now) (slice_index_or (curve_exits book.now) twist.now.curve []) twist.now.power words) ≡ Err long) }
+        → by_entry (joined_polygon basis.now) (curve_exits book.now) number twist.now words ≡ Err long) }
 {
     match after_twist(alloc, book, basis, *twist, words) {
         Ok(words) => Ok(words),

@@ -4,9 +4,9 @@ use Rattle.std.specs.List.{list_any}
 use Rattle.std.specs.Str.{bytes_eq}
 use Rattle.page_surface.specs.Labels.{Label}
 use Rattle.page_surface.specs.Page.{refusal_of as page_refusal}
+use Rattle.curve_paths.specs.declared.twist.Twist.{Twist}
 use Rattle.obd_doc.specs.Document.{all_curve_rules, book_of, book_rules, curve_on, first_of, names_of, twist_about, twist_rule}
 use Rattle.obd_doc.specs.declared.book.NamedCurve.{NamedCurve}
-use Rattle.obd_doc.specs.declared.book.Twist.{Twist}
 use Rattle.obd_doc.specs.declared.entries.NamedPath.{NamedPath}
 use Rattle.obd_doc.specs.declared.entries.NamedTwist.{NamedTwist}
 use Rattle.obd_doc.specs.declared.fields.Fields.{Fields}

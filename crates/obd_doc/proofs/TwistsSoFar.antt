@@ -5,8 +5,8 @@ use Rattle.std.specs.Str.{bytes_eq}
 use Rattle.std.proofs.lemmas.Bool.{cases_Bool, false≢true, le-ltb, lt-ltb, or_parts}
 use Rattle.std.proofs.lemmas.Option.{same_Some}
 use Rattle.std.proofs.lemmas.List.{map-append, take_more, take_all}
+use Rattle.curve_paths.specs.declared.twist.Twist.{Twist}
 use Rattle.obd_doc.specs.Document.{twist_about}
-use Rattle.obd_doc.specs.declared.book.Twist.{Twist}
 use Rattle.obd_doc.specs.declared.entries.NamedTwist.{NamedTwist}
 
 -- the twist names none of these curves

@@ -8,12 +8,12 @@ use Rattle.serde_json.specs.Find.{as_object, get}
 use Rattle.page_surface.specs.Labels.{Label}
 use Rattle.page_surface.specs.Page.{IsPage, refusal_of as page_refusal}
 use Rattle.curve_paths.specs.PathRules.{refusal_of as curve_refusal}
+use Rattle.curve_paths.specs.declared.twist.Twist.{Twist}
 use Rattle.obd_doc.specs.Kinds.{limits, name, named_path, named_twist, slide_side, whole_from}
 use Rattle.obd_doc.specs.Reading.{Kind, array_of}
 use Rattle.obd_doc.specs.Values.{field_names, value_of}
 use Rattle.obd_doc.specs.declared.book.Book.{Book}
 use Rattle.obd_doc.specs.declared.book.NamedCurve.{NamedCurve}
-use Rattle.obd_doc.specs.declared.book.Twist.{Twist}
 use Rattle.obd_doc.specs.declared.entries.Limits.{Limits}
 use Rattle.obd_doc.specs.declared.entries.NamedPath.{NamedPath}
 use Rattle.obd_doc.specs.declared.entries.NamedTwist.{NamedTwist}

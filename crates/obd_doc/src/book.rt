@@ -1,7 +1,7 @@
 // The open book that a document gives.
 
 use crate::entries::Limits;
-use curve_paths::{Cross, PageCurve};
+use curve_paths::{Cross, PageCurve, Twist};
 use obd_base::{Items, Name, SideNo};
 use page_surface::Page;
 
@@ -21,14 +21,6 @@ impl Drop for NamedCurve {
             curve: _curve,
         } = self;
     }
-}
-
-/// An entry of the twist word: the number of a curve, counted from 0, and the power, from -64 to 64 and not 0.
-/// A power `n` is `|n|` single twists, positive ones where `n` is above 0.
-#[derive(Clone, Copy, Debug, PartialEq, Eq)]
-pub struct Twist {
-    pub curve: u32,
-    pub power: i32,
 }
 
 /// An open book as its document gives it: a page, curves on it, the twist word, whose first entry is applied

@@ -9,12 +9,12 @@ ghost use Rattle.obd_doc.specs.Document.{all_curve_rules, book_of, book_read, bo
 ghost use Rattle.obd_doc.specs.Settled.{Settles};
 ghost use Rattle.obd_doc.specs.declared.refusal.DocRefusal.TheVariants.{Page as NoPage, TooMany, UnknownCurve};
 
-use crate::book::{Book, NamedCurve, Twist};
+use crate::book::{Book, NamedCurve};
 use crate::entries::{NamedPath, NamedTwist};
 use crate::fields::{Fields, read_fields};
 use crate::refusal::{DocRefusal, FieldName};
 use crate::values::read_value;
-use curve_paths::{CurveRefusal, PageCurve, copied_path};
+use curve_paths::{CurveRefusal, PageCurve, Twist, copied_path};
 use indexmap::IndexSet;
 use obd_base::{Items, Name, NoMemory};
 use page_surface::{Page, PageRefusal};

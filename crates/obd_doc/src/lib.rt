@@ -14,7 +14,8 @@ mod reading;
 mod refusal;
 mod values;
 
-pub use book::{Book, NamedCurve, Twist};
+pub use book::{Book, NamedCurve};
+pub use curve_paths::Twist;
 pub use document::read;
 pub use entries::{Limits, NamedPath, NamedTwist};
 pub use refusal::{DocRefusal, FieldName};

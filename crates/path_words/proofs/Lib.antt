@@ -1,19 +1,23 @@
-mod ImageProduct
-mod Crossing
-mod CurvePlanar
-mod CurvePoints
-mod CurveWords
-mod Homs
+pub mod ImageProduct
+pub mod Crossing
+pub mod CurvePlanar
+pub mod CurvePoints
+pub mod CurveWords
+pub mod Homs
 pub mod Laws
-mod Letters
-mod Members
+pub mod Letters
+pub mod Members
 mod Moving
-mod Passed
-mod Places
-mod Planar
+pub mod Numbered
+pub mod Passed
+pub mod Places
+pub mod Planar
 mod PushWords
 mod Readings
 mod Reducing
-mod Reduction
+pub mod Reduction
 pub mod SideLetters
 mod Stacks
+mod Tables
+mod Turning
+mod Turns

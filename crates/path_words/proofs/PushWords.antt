@@ -15,10 +15,11 @@ use Rattle.obd_base.proofs.lists.Members.{mem_append, mem_left, mem_map, mem_rig
 use Rattle.page_surface.specs.Drawing.{is_at}
 use Rattle.page_surface.specs.Polygon.{Pairs, Polygon, partner, sides}
 use Rattle.page_surface.specs.Words.{inverse, push_letter, reduced}
-use Rattle.curve_paths.specs.Curves.{IsCurve, curve_entry, curve_points, gap_before, image, passed, push_at, rho, signed, turned}
-use Rattle.path_words.proofs.Letters.{from_back}
+use Rattle.curve_paths.specs.Curves.{IsCurve, curve_entry, curve_points, passed, push_at, rho, signed, turned}
+use Rattle.path_words.specs.Pushes.{reduced_pushes}
+use Rattle.path_words.proofs.Letters.{from_back, from_cancelled}
 use Rattle.path_words.proofs.Members.{from_flat_map, mem_get_or}
-use Rattle.path_words.proofs.SideLetters.{AreSides, side_letters}
+use Rattle.path_words.proofs.SideLetters.{AreSides, reduced_is, side_letters}
 
 -- a push with one point more
 pub push_more : (p : Polygon) (c : List Exit) (sign : Sign) (k j : ℕ) (push new : List ℕ) → push ≡ flat_map (λ i. signed p sign (rho p c k i)) (below j)
@@ -36,6 +37,56 @@ pub pushes_more : (f : ℕ → List ℕ) (k : ℕ) (pushes new : List (List ℕ)
     → new ≡ map f (below (k + 1))
 pushes_more f k pushes new push so_far is made =
     made ∙ (ap₂ (λ xs x. xs ++ x ∷ []) so_far is ∙ sym (map-range_with_len_more f 0 k k (omega arith)))
+
+-- words of which each is at most so long
+pub length_product : (f : ℕ → List ℕ) (most : ℕ) (xs : List ℕ) → ((x : ℕ) → length (f x) ≤ most) → length (flat_map f xs) ≤ length xs * most
+length_product f most [] h = omega arith
+length_product f most (x ∷ xs) h = omega (arith, length-append (f x) (flat_map f xs), h x, length_product f most xs h)
+
+-- a reduced form is no longer than the word
+pub length-reduced : (p : Polygon) (w : List ℕ) → length (reduced p w) ≤ length w
+length-reduced p [] = omega arith
+length-reduced p (s ∷ w) = omega (arith, pushed (reduced p w), length-reduced p w)
+  where
+    pushed : (v : List ℕ) → length (push_letter p s v) ≤ suc (length v)
+    pushed [] = omega arith
+    pushed (t ∷ v) = cond_both (nat_eq (partner p s) t) v (s ∷ t ∷ v) (λ x. length x ≤ suc (suc (length v))) (λ _. omega arith) (λ _. omega arith)
+
+module _ (p : Polygon) (c : List Exit) (sign : Sign) (few : length c ≤ 32) where
+  -- a curve has at most 32 letters, read from any exit on
+  length-turned : (i : ℕ) → length (turned i (map (λ e. e.side) c)) ≤ 32
+  length-turned i =
+      let w : List ℕ = map (λ e. e.side) c in
+      omega (arith, length-append (drop i w) (take i w), length-append (take i w) (drop i w), ap length (take-append-drop i w), length-map c (λ (e : Exit). e.side))
+
+  -- and as many back
+  length-inverse : (w : List ℕ) → length (inverse p w) ≡ length w
+  length-inverse w = length-reverse (map (partner p) w) ∙ length-map w (partner p)
+
+  -- so from a point
+  length-rho : (k j : ℕ) → length (rho p c k j) ≤ 32
+  length-rho k j =
+      let w : List ℕ = map (λ e. e.side) c in
+      let leaves : ℕ = position_or_len (λ e. is_at e k j) c in
+      let enters : ℕ = position_or_len (λ e. is_at (curve_entry p c e) k j) c in
+      cond_both (nat_lt leaves (length c)) (turned leaves w) (inverse p (turned (suc enters) w)) (λ x. length x ≤ 32)
+      (λ _. length-turned leaves) (λ _. omega (arith, length-inverse (turned (suc enters) w), length-turned (suc enters)))
+
+  -- for either sign
+  length-signed : (sign : Sign) (w : List ℕ) → length w ≤ 32 → length (signed p sign w) ≤ 32
+  length-signed Plus w h = h
+  length-signed Minus w h = omega (arith, length-inverse w)
+
+  -- a side has at most 64 points of the curve
+  pub length-push_at : (k : ℕ) → length (push_at p c sign k) ≤ 2048
+  length-push_at k =
+      omega (
+        arith,
+        length_product (λ j. signed p sign (rho p c k j)) 32 (below (curve_points p c k)) (λ j. length-signed sign (rho p c k j) (length-rho k j)),
+        length-range_with_len 0 (curve_points p c k),
+        count_by-le-length (λ e. nat_eq e.side k) c,
+        count_by-le-length (λ e. nat_eq (partner p e.side) k) c,
+      )
 
 module _ (p : Polygon) (ok : Pairs p) where
   -- the letters of a word that is turned are sides
@@ -74,13 +125,30 @@ module _ (p : Polygon) (ok : Pairs p) where
         let (j, _, n) = from_flat_map (λ j. signed p sign (rho p c k j)) s (below (curve_points p c k)) m in
         sides_signed sign (rho p c k j) (sides_rho k j) s n
 
-    -- so the pushes along all sides hold sides alone
-    pub pushes_in_range : (pushes : List (List ℕ)) → pushes ≡ map (push_at p c sign) (below (sides p)) → All (λ push. All (λ s. s < sides p) push) pushes
+    -- a word that is a push holds sides alone
+    pub push_in_range : (k : ℕ) (push : List ℕ) → push ≡ push_at p c sign k → All (λ s. s < sides p) push
+    push_in_range k push is i d l = sides_push k (get_or push i d) (subst (Mem (get_or push i d)) is (mem_get_or push i d l))
+
+    -- and so does its reduced form
+    sides_reduced : (k : ℕ) → AreSides p (reduced p (push_at p c sign k))
+    sides_reduced k s m = sides_push k s (from_cancelled (side_letters p ok) (push_at p c sign k) s (subst (Mem s) (reduced_is p ok (push_at p c sign k)) m))
+
+    -- the words of the table of pushes
+    table_at : (pushes : List (List ℕ)) → pushes ≡ reduced_pushes p c sign → (k : ℕ) (d : List ℕ) → k < length pushes → get_or pushes k d ≡ reduced p (push_at p c sign k)
+    table_at pushes is k d l =
+        let small : k < sides p = omega (arith, ap length is, length-map-range_with_len (λ k. reduced p (push_at p c sign k)) 0 (sides p)) in
+        ap (λ xs. get_or xs k d) is ∙ get_or-map-range_with_len (λ k. reduced p (push_at p c sign k)) 0 (sides p) k k d small (omega arith)
+
+    -- hold sides alone
+    pub pushes_in_range : (pushes : List (List ℕ)) → pushes ≡ reduced_pushes p c sign → All (λ push. All (λ s. s < sides p) push) pushes
     pushes_in_range pushes is k d l i e m =
-        let small : k < sides p = omega (arith, ap length is, length-map-range_with_len (push_at p c sign) 0 (sides p)) in
-        let at : get_or pushes k d ≡ push_at p c sign k
-        = ap (λ xs. get_or xs k d) is ∙ get_or-map-range_with_len (push_at p c sign) 0 (sides p) k k d small (omega arith) in
-        sides_push k (get_or (get_or pushes k d) i e) (subst (Mem (get_or (get_or pushes k d) i e)) at (mem_get_or (get_or pushes k d) i e m))
+        let at = table_at pushes is k d l in
+        sides_reduced k (get_or (get_or pushes k d) i e) (subst (Mem (get_or (get_or pushes k d) i e)) at (mem_get_or (get_or pushes k d) i e m))
+
+    -- and are short
+    pub pushes_short : length c ≤ 32 → (pushes : List (List ℕ)) → pushes ≡ reduced_pushes p c sign → All (λ push. length push ≤ 2048) pushes
+    pushes_short few pushes is k d l =
+        omega (arith, ap length (table_at pushes is k d l), length-reduced p (push_at p c sign k), length-push_at p c sign few k)
 
 -- the product over the pushes of a table is that of the pushes
 pub table_product : (n : ℕ) (f : ℕ → List ℕ) (xs : List ℕ) → ((x : ℕ) → Mem x xs → x < n) → flat_map (λ k. get_or (map f (below n)) k []) xs ≡ flat_map f xs
@@ -93,73 +161,3 @@ pub passed_in_range : (p : Polygon) → 0 < sides p → (u v s : ℕ) → Mem s 
 passed_in_range p some u v s m =
     let (i, _, e) = mem_map (λ (i : ℕ). (u + 1 + i) % sides p) s (below ((v + sides p - u) % sides p)) m in
     omega (arith, e)
-
--- words of which each is at most so long
-length_product : (f : ℕ → List ℕ) (most : ℕ) (xs : List ℕ) → ((x : ℕ) → length (f x) ≤ most) → length (flat_map f xs) ≤ length xs * most
-length_product f most [] h = omega arith
-length_product f most (x ∷ xs) h = omega (arith, length-append (f x) (flat_map f xs), h x, length_product f most xs h)
-
--- a reduced form is no longer than the word
-pub length-reduced : (p : Polygon) (w : List ℕ) → length (reduced p w) ≤ length w
-length-reduced p [] = omega arith
-length-reduced p (s ∷ w) = omega (arith, pushed (reduced p w), length-reduced p w)
-  where
-    pushed : (v : List ℕ) → length (push_letter p s v) ≤ suc (length v)
-    pushed [] = omega arith
-    pushed (t ∷ v) = cond_both (nat_eq (partner p s) t) v (s ∷ t ∷ v) (λ x. length x ≤ suc (suc (length v))) (λ _. omega arith) (λ _. omega arith)
-
-module _ (p : Polygon) (c : List Exit) (sign : Sign) (few : length c ≤ 32) (few_sides : sides p ≤ 16) (some : 0 < sides p) where
-  -- a curve has at most 32 letters, read from any exit on
-  length-turned : (i : ℕ) → length (turned i (map (λ e. e.side) c)) ≤ 32
-  length-turned i =
-      let w : List ℕ = map (λ e. e.side) c in
-      omega (arith, length-append (drop i w) (take i w), length-append (take i w) (drop i w), ap length (take-append-drop i w), length-map c (λ (e : Exit). e.side))
-
-  -- and as many back
-  length-inverse : (w : List ℕ) → length (inverse p w) ≡ length w
-  length-inverse w = length-reverse (map (partner p) w) ∙ length-map w (partner p)
-
-  -- so from a point
-  length-rho : (k j : ℕ) → length (rho p c k j) ≤ 32
-  length-rho k j =
-      let w : List ℕ = map (λ e. e.side) c in
-      let leaves : ℕ = position_or_len (λ e. is_at e k j) c in
-      let enters : ℕ = position_or_len (λ e. is_at (curve_entry p c e) k j) c in
-      cond_both (nat_lt leaves (length c)) (turned leaves w) (inverse p (turned (suc enters) w)) (λ x. length x ≤ 32)
-      (λ _. length-turned leaves) (λ _. omega (arith, length-inverse (turned (suc enters) w), length-turned (suc enters)))
-
-  -- for either sign
-  length-signed : (sign : Sign) (w : List ℕ) → length w ≤ 32 → length (signed p sign w) ≤ 32
-  length-signed Plus w h = h
-  length-signed Minus w h = omega (arith, length-inverse w)
-
-  -- a side has at most 64 points of the curve
-  length-push_at : (k : ℕ) → length (push_at p c sign k) ≤ 2048
-  length-push_at k =
-      omega (
-        arith,
-        length_product (λ j. signed p sign (rho p c k j)) 32 (below (curve_points p c k)) (λ j. length-signed sign (rho p c k j) (length-rho k j)),
-        length-range_with_len 0 (curve_points p c k),
-        count_by-le-length (λ e. nat_eq e.side k) c,
-        count_by-le-length (λ e. nat_eq (partner p e.side) k) c,
-      )
-
-  -- fewer than 16 sides are passed
-  length-way : (u v : ℕ) → length (flat_map (push_at p c sign) (passed p u v)) ≤ 32768
-  length-way u v =
-      omega (
-        arith,
-        length_product (push_at p c sign) 2048 (passed p u v) length-push_at,
-        length-map-range_with_len (λ i. (u + 1 + i) % sides p) 0 ((v + sides p - u) % sides p),
-      )
-
-  -- so an image has at most so many letters
-  pub length-image : (w : List ℕ) (u v : ℕ) → length (image p c sign w u v) ≤ (length w + 1) * 32768 + length w
-  length-image [] u v = omega (arith, length-way u v)
-  length-image (s ∷ w) u v =
-      omega (
-        arith,
-        length-append (flat_map (push_at p c sign) (passed p u (gap_before p s))) (s ∷ image p c sign w (partner p s) v),
-        length-way u (gap_before p s),
-        length-image w (partner p s) v,
-      )

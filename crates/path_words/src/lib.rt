@@ -7,9 +7,15 @@
 #![tactic(auto)]
 
 mod action;
+mod image;
+mod once;
+mod powers;
 mod pushes;
 mod reduce_word;
+mod refusal;
 mod stack;
 
 pub use action::{ActRefusal, act};
+pub use powers::by_power;
 pub use reduce_word::reduce;
+pub use refusal::TwistRefusal;

@@ -1,15 +1,18 @@
 // The pushes of a twist along a curve: the word that is set where a path passes a side.
 ghost use Rattle.std.specs.Prelude.{◌≡◌, ◌<◌, ◌≤◌, ◌++◌, ◌&&◌, nat_eq, length, map, All, IfOk, OnOk};
 ghost use Rattle.std.specs.List.{position_or_len};
-ghost use Rattle.obd_base.specs.Lists.{below};
 ghost use Rattle.page_surface.specs.Drawing.{is_at};
 ghost use Rattle.page_surface.specs.Polygon.{IsPolygon, partner, sides};
-ghost use Rattle.page_surface.specs.Words.{inverse};
+ghost use Rattle.page_surface.specs.Words.{inverse, reduced};
 ghost use Rattle.curve_paths.specs.Curves.{IsCurve, curve_points, push_at, rho, signed, turned};
+ghost use Rattle.path_words.specs.Pushes.{IsPushTable, push_of, reduced_pushes};
 
+use crate::reduce_word::reduce;
+use curve_paths::Curve;
 use obd_base::{Exit, Items, NoMemory, SideNo, Sign};
 use page_surface::Polygon;
 use std::alloc::Global;
+use std::marker::Model;
 
 // How many points the curve has on a side.
 fn points_on(polygon: &Polygon, exits: &[Exit], side: SideNo) -> u32
@@ -133,7 +136,7 @@ fn put_at_point(
     }
 }
 
-// The push along a side: what a twist sets at the curve's points on it, in order.
+// The push along a side, reduced: what a twist sets at the curve's points on it, in order.
 fn push_along(
     alloc: Global,
     polygon: &Polygon,
@@ -145,36 +148,59 @@ fn push_along(
     requires curve { IsCurve polygon.now exits.now }
     requires few { length exits.now ≤ 32 }
     requires side { side < sides polygon.now }
-    ensures { IfOk result (λ push. push.items ≡ push_at polygon.now exits.now sign side) }
+    ensures { IfOk result (λ push. push.items ≡ reduced polygon.now (push_at polygon.now exits.now sign side)) }
 {
     let count = points_on(polygon, exits, side);
     let mut push = Vec::new(alloc);
     for place in 0..count {
         put_at_point(polygon, exits, sign, side, place, count, &mut push)?;
     }
+    reduce(polygon, &mut push);
     Ok(push)
 }
 
-// The pushes along all sides. Linear in their letters, which are as many as the exits for each point of the
-// curve, in that an exit is found at a point in no more steps than the exits are.
-pub(crate) fn side_pushes(
-    alloc: Global,
-    polygon: &Polygon,
-    exits: &[Exit],
-    sign: Sign,
-) -> Result<Items<Items<SideNo>>, NoMemory>
-    requires curve { IsCurve polygon.now exits.now }
-    requires few { length exits.now ≤ 32 }
-    ensures pushes { IfOk result (λ pushes. pushes ≡ map (push_at polygon.now exits.now sign) (below (sides polygon.now))) }
-    ensures each { IfOk result (λ pushes. length pushes ≡ sides polygon.now) }
-    ensures in_range { IfOk result (λ pushes. All (λ push. All (λ s. s < sides polygon.now) push) pushes) }
-    ensures valid { IsPolygon polygon.now }
-    ensures few_sides { sides polygon.now ≤ 16 }
-{
-    let mut pushes = Items::new(alloc);
-    for side in 0..polygon.sides() {
-        let push = push_along(alloc, polygon, exits, sign, SideNo::new(side))?;
-        pushes.push(Items::from_vec(push))?;
+// What a twist along a curve sets along each side, reduced. Contracts see it as the list of these words.
+#[derive(Drop)]
+pub(crate) struct Pushes {
+    words: Items<Items<SideNo>>,
+}
+
+impl Model for Pushes {
+    ghost use Rattle.std.specs.Prelude.{ℕ, List};
+
+    ghost Value = { List (List ℕ) };
+
+    ghost view = { λ pushes. pushes.words };
+}
+
+impl Pushes {
+    // The pushes of a single twist. In no more steps than the points of the curve, which are twice its exits, times
+    // its exits: an exit is found at a point in so many steps, and so many letters are set there.
+    pub(crate) fn of(
+        alloc: Global,
+        polygon: &Polygon,
+        curve: &Curve,
+        sign: Sign,
+    ) -> Result<Pushes, NoMemory>
+        requires { IsCurve polygon.now curve.now }
+        ensures value { IfOk result (λ pushes. pushes ≡ reduced_pushes polygon.now curve.now sign) }
+        ensures table { IfOk result (λ pushes. IsPushTable polygon.now pushes) }
+        ensures some { 1 ≤ length curve.now }
+    {
+        let exits = curve.exits();
+        let mut words = Items::new(alloc);
+        for side in 0..polygon.sides() {
+            let push = push_along(alloc, polygon, exits, sign, SideNo::new(side))?;
+            words.push(Items::from_vec(push))?;
+        }
+        Ok(Pushes { words })
     }
-    Ok(pushes)
+
+    // The push along a side.
+    pub(crate) fn along(&self, side: SideNo) -> &[SideNo]
+        requires { side < length self.now }
+        ensures { result.now ≡ push_of self.now side }
+    {
+        self.words.as_slice()[side.number() as usize].as_slice()
+    }
 }

@@ -1,7 +1,7 @@
 use Rattle.std.proofs.Common.{◌≡◌, ◌<◌, ap, List, get_or, length, pos, arith}
-use Rattle.arc_basis.specs.Basis.{joined_polygon}
-use Rattle.obd_doc.specs.declared.book.Twist.{Twist}
 use Rattle.std.specs.Prelude.{Err}
+use Rattle.arc_basis.specs.Basis.{joined_polygon}
+use Rattle.curve_paths.specs.declared.twist.Twist.{Twist}
 use Rattle.obd_cli.specs.Words.{book_words, curve_exits}
 use Rattle.obd_cli.proofs.WordsSoFar.{book_all, book_long, entries_more, handed_on}
 use Rattle.obd_cli.proofs.words.book_words.Goals as goal

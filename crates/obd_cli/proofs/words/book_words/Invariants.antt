@@ -1,8 +1,8 @@
 use Rattle.std.proofs.Common.{◌≡◌, drop}
 use Rattle.arc_basis.specs.Basis.{joined_polygon}
 use Rattle.curve_paths.specs.Curves.{identity_words}
-use Rattle.twist_words.specs.Powers.{AreWords}
-use Rattle.obd_cli.specs.Words.{by_entries, curve_exits}
+use Rattle.curve_paths.specs.Twists.{AreWords, by_entries}
+use Rattle.obd_cli.specs.Words.{curve_exits}
 use Rattle.obd_cli.proofs.words.book_words.Given as goal
 
 -- the words so far are words, from which the entries that are left lead on

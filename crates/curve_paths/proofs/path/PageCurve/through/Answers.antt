@@ -1,10 +1,10 @@
 use Rattle.std.proofs.Common.{length, refl, sym, ap, ◌∙◌, arith}
-use Rattle.std.proofs.lemmas.Bool.{eqb-false}
+use Rattle.std.proofs.lemmas.Bool.{eqb-false, eqb-true}
 use Rattle.page_surface.specs.Joining.{joined}
 use Rattle.arc_basis.specs.Basis.{joined_polygon}
 use Rattle.curve_paths.specs.PathTables.{PagePath}
 use Rattle.curve_paths.specs.Through.{exits_through}
-use Rattle.curve_paths.proofs.Kept.{are_on, few_exits, through_curve, through_is}
+use Rattle.curve_paths.proofs.Kept.{are_on, few_exits, some_exit, through_curve, through_is}
 use Rattle.curve_paths.proofs.path.PageCurve.through.Goals as goal
 
 pub joined_exits-requires : goal.joined_exits-requires
@@ -32,3 +32,13 @@ pub returns-clause-curve : goal.returns-clause-curve
 returns-clause-curve c =
     rw c.in_ok-of.ensures (through_curve _ _ _ _ c.self.invariant c.args.basis.now (c.requires ∙ sym (ap (λ (v : PagePath). joined v.page) c.self.view_is)) c.polygon-polygon.ensures.no_seam _ _
     c.deref.ensures.value c.in_ok-exits.ensures (joined_polygon c.args.basis.now) refl)
+
+pub returns-then-is_empty-clause-one : goal.returns-then-is_empty-clause-one
+returns-then-is_empty-clause-one c = λ _.
+    absurd (omega (
+      arith,
+      some_exit _ _ _ _ c.self.invariant c.args.basis.now (c.requires ∙ sym (ap (λ (v : PagePath). joined v.page) c.self.view_is)) c.polygon-polygon.ensures.no_seam _ _
+          c.deref.ensures.value c.in_ok-exits.ensures,
+      c.in_ok-exits.exits.ok.0,
+      eqb-true _ 0 (sym c.is_empty.ensures ∙ c.if-is_empty.true),
+    ))

@@ -1,4 +1,0 @@
-pub mod Numbered
-mod FirstWords
-mod Turning
-mod Turns
