@@ -17,7 +17,8 @@ use Rattle.page_surface.specs.Page.{IsPage, refusals}
 use Rattle.page_surface.specs.declared.refusal.PageRefusal.TheVariants.{LabelCount}
 use Rattle.page_surface.proofs.LabelNumbers.{has, has_still, has_new, has_no_other, at_places, first_below}
 use Rattle.page_surface.proofs.Names.{at_number, number_kept}
-use Rattle.page_surface.proofs.FewSides.{among_with_labels, none_refuses, none_found}
+use Rattle.obd_base.proofs.Options.{each_none, none_mapped}
+use Rattle.page_surface.proofs.FewSides.{among_with_labels}
 
 -- how often a side stands among some sides
 abbrev pub stands : ℕ → ℕ → List SideLabel → ℕ
@@ -116,8 +117,8 @@ none_passes p (x ∷ xs) i d none l = go (p x) refl none i l (λ k. none_passes 
 pub twice_on_page : (polygons : List (List Label)) → IsPage polygons → (number : ℕ) → number < length (labels_of polygons)
     → occurrences_of polygons (get_or (labels_of polygons) number []) ≡ 2
 twice_on_page polygons page number l =
-    let rules = none_refuses (refusals polygons) page in
-    let none = none_found (λ label. LabelCount label (occurrences_of polygons label)) _ rules.1.1.1.1.0 in
+    let rules = each_none (refusals polygons) page in
+    let none = none_mapped (λ label. LabelCount label (occurrences_of polygons label)) _ rules.1.1.1.1.0 in
     eqb-true _ _ (not-false _ (none_passes (λ label. not (eqb (occurrences_of polygons label) 2)) (labels_of polygons) number [] none l))
 
 -- so each side of each label stands once among all sides

@@ -13,7 +13,8 @@ use Rattle.page_surface.specs.Joining.{side, has_side, is_side, other_side, is_s
 use Rattle.page_surface.specs.Labels.{Label, all_sides, labels_of, side_labels, side_labels_of, with_labels}
 use Rattle.page_surface.specs.Page.{IsPage, arc_number, refusals}
 use Rattle.page_surface.specs.Polygon.{Pairs, Polygon, paired}
-use Rattle.page_surface.proofs.FewSides.{holds_where_none, none_refuses, two_a_label}
+use Rattle.obd_base.proofs.Options.{each_none, fails_where_none}
+use Rattle.page_surface.proofs.FewSides.{two_a_label}
 use Rattle.page_surface.proofs.Sides.{length-side_labels}
 use Rattle.arc_basis.specs.Basis.{label_count}
 use Rattle.arc_basis.specs.BasisTables.{AreAllFound, AreBasisTables, AreNamed, of_sides, side_table}
@@ -77,14 +78,14 @@ module _ (names : List Label) (page : IsPage (names ∷ [])) where
   -- a page has 1 to 8 arcs
   some_arc : 1 ≤ count
   some_arc =
-      let rules = none_refuses (refusals (names ∷ [])) page in
-      let none = eqb-false (arc_number (names ∷ [])) 0 (holds_where_none (eqb (arc_number (names ∷ [])) 0) DiskPage rules.1.1.1.1.1.1.1.0) in
+      let rules = each_none (refusals (names ∷ [])) page in
+      let none = eqb-false (arc_number (names ∷ [])) 0 (fails_where_none (eqb (arc_number (names ∷ [])) 0) DiskPage rules.1.1.1.1.1.1.1.0) in
       omega (arith, none)
 
   few_arcs : count ≤ 8
   few_arcs =
-      let rules = none_refuses (refusals (names ∷ [])) page in
-      let few = ltb-false 8 (arc_number (names ∷ [])) (holds_where_none (ltb 8 (arc_number (names ∷ []))) (TooManyArcs (arc_number (names ∷ []))) rules.1.1.1.1.1.1.0) in
+      let rules = each_none (refusals (names ∷ [])) page in
+      let few = ltb-false 8 (arc_number (names ∷ [])) (fails_where_none (ltb 8 (arc_number (names ∷ []))) (TooManyArcs (arc_number (names ∷ []))) rules.1.1.1.1.1.1.0) in
       omega (arith, few)
 
   -- what joining makes of them

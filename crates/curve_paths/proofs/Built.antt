@@ -10,7 +10,7 @@ use Rattle.page_surface.specs.Drawing.{Chord}
 use Rattle.page_surface.specs.Labels.{Label, labels_of}
 use Rattle.page_surface.specs.Page.{IsPage, refusals}
 use Rattle.page_surface.specs.declared.refusal.PageRefusal.TheVariants.{TooManyLabels}
-use Rattle.page_surface.proofs.FewSides.{holds_where_none, none_refuses}
+use Rattle.obd_base.proofs.Options.{each_none, fails_where_none}
 use Rattle.curve_paths.specs.declared.crossing.Crossing.{Crossing}
 use Rattle.curve_paths.specs.declared.path.Cross.{Cross}
 use Rattle.curve_paths.specs.PathTables.{HaveOccurrences, IsPathKept, PagePath}
@@ -21,8 +21,8 @@ use Rattle.curve_paths.proofs.Rules.{crossings_named, crossings_placed}
 -- a page has at most 24 labels
 pub few_labels : (page : List (List Label)) → IsPage page → length (labels_of page) ≤ 24
 few_labels page valid =
-    let rules = none_refuses (refusals page) valid in
-    ltb-false 24 (length (labels_of page)) (holds_where_none (ltb 24 (length (labels_of page))) (TooManyLabels (length (labels_of page))) rules.1.1.1.0)
+    let rules = each_none (refusals page) valid in
+    ltb-false 24 (length (labels_of page)) (fails_where_none (ltb 24 (length (labels_of page))) (TooManyLabels (length (labels_of page))) rules.1.1.1.0)
 
 -- as many counts as labels
 pub counts_size : (cs : List Crossing) (counts : List ℕ) (n : ℕ) → counts ≡ map (label_points cs) (below n) → length counts ≡ n

@@ -6,6 +6,7 @@ use Rattle.std.proofs.lemmas.List.{length-map}
 use Rattle.std.proofs.lemmas.List.FromFn.{get_or-map-range_with_len, length-map-range_with_len}
 use Rattle.obd_base.specs.Lists.{Mem, below}
 use Rattle.obd_base.specs.declared.points.Exit.{Exit}
+use Rattle.obd_base.proofs.Options.{NoneOf, each_none, fails_where_none, none_mapped}
 use Rattle.obd_base.proofs.lists.Below.{below_mem, range_mem}
 use Rattle.obd_base.proofs.lists.Members.{mem_left, mem_right}
 use Rattle.page_surface.specs.declared.page.SideLabel.{SideLabel}
@@ -22,10 +23,9 @@ use Rattle.arc_basis.proofs.Places.{any_counted, found_place, mem_at}
 use Rattle.curve_paths.specs.declared.chords.ChordPair.{ChordPair}
 use Rattle.curve_paths.specs.declared.crossing.Crossing.{Crossing}
 use Rattle.curve_paths.specs.declared.path.Cross.{Cross}
-use Rattle.curve_paths.specs.declared.refusal.CurveRefusal.{CurveRefusal}
 use Rattle.curve_paths.specs.declared.refusal.CurveRefusal.TheVariants.{EmptyPath, UnknownLabel, TooManyCrossings, PlaceWrong, Crosses}
 use Rattle.curve_paths.specs.Curves.{IsCurve}
-use Rattle.curve_paths.specs.PathRules.{IsPath, crossing_pair, do_cross, first_of, pair, pairs_below, refusals, when}
+use Rattle.curve_paths.specs.PathRules.{IsPath, crossing_pair, do_cross, pair, pairs_below, refusals}
 use Rattle.curve_paths.specs.PathTables.{IsPathKept}
 use Rattle.curve_paths.specs.Paths.{crossing, crossing_at, crossings, has_label_places, is_known, label_points, path_chord, path_chords, place_on, row}
 use Rattle.curve_paths.specs.PlaceTables.{AreOn, ArePlaced}
@@ -33,24 +33,6 @@ use Rattle.curve_paths.specs.Through.{exit_through, exits_through}
 use Rattle.curve_paths.proofs.Carried.{out, outs, outs_curve}
 use Rattle.curve_paths.proofs.Orders.{named_in_row, once_in_row, there_in_row}
 use Rattle.curve_paths.proofs.Rules.{crossings_placed, labels_known}
-
--- none of these refuses
-abbrev NoneOf : List (Option CurveRefusal) → Type 0
-NoneOf [] = Unit {0}
-NoneOf (refusal ∷ rest) = (refusal ≡ None) × NoneOf rest
-
-none_of : (refusals : List (Option CurveRefusal)) → first_of refusals ≡ None → NoneOf refusals
-none_of [] none = tt
-none_of (None ∷ rest) none = (refl, none_of rest none)
-none_of (Some refusal ∷ rest) none = absurd (let bad = none in cc)
-
-holds : (fails : Bool) (refusal : CurveRefusal) → when fails refusal ≡ None → fails ≡ false
-holds false refusal none = refl
-holds true refusal none = absurd (let bad = none in cc)
-
-unfound : {A B : Type 0} (f : A → B) (o : Option A) → option_map f o ≡ None → o ≡ None
-unfound f None none = refl
-unfound f (Some x) none = absurd (let bad = none in cc)
 
 -- what is found nowhere in a list fails for each member
 fails_for : {X : Type 0} (q : X → Bool) (xs : List X) (x : X) → find q xs ≡ None → Mem x xs → q x ≡ false
@@ -82,25 +64,25 @@ module _ (page : List (List Label)) (path : List Cross) (kept : IsPath page path
   cs = crossings page path
 
   rules : NoneOf (refusals page path)
-  rules = none_of (refusals page path) kept
+  rules = each_none (refusals page path) kept
 
   some_crossing : eqb (length path) 0 ≡ false
-  some_crossing = holds (eqb (length path) 0) EmptyPath rules.0
+  some_crossing = fails_where_none (eqb (length path) 0) EmptyPath rules.0
 
   known : list_all (is_known page) path ≡ true
-  known = labels_known page path some_crossing (sym (unfound UnknownLabel _ rules.1.0))
+  known = labels_known page path some_crossing (sym (none_mapped UnknownLabel _ rules.1.0))
 
   few : ltb 32 (length path) ≡ false
-  few = holds (ltb 32 (length path)) (TooManyCrossings (length path)) rules.1.1.0
+  few = fails_where_none (ltb 32 (length path)) (TooManyCrossings (length path)) rules.1.1.0
 
   no_wrong : find (λ label. not (has_label_places cs label)) (below (length (labels_of page))) ≡ None
-  no_wrong = unfound (λ label. PlaceWrong (get_or (labels_of page) label [])) _ rules.1.1.1.0
+  no_wrong = none_mapped (λ label. PlaceWrong (get_or (labels_of page) label [])) _ rules.1.1.1.0
 
   right : (label : ℕ) → label < length (labels_of page) → has_label_places cs label ≡ true
   right label l = not-false _ (fails_for (λ label. not (has_label_places cs label)) (below (length (labels_of page))) label no_wrong (below_mem _ label l))
 
   no_pair : crossing_pair (path_chords page cs) ≡ None
-  no_pair = unfound (λ (e : ChordPair). Crosses e.first e.second) _ rules.1.1.1.1.1.0
+  no_pair = none_mapped (λ (e : ChordPair). Crosses e.first e.second) _ rules.1.1.1.1.1.0
 
   clear : (i j : ℕ) → i < j → j < length cs → crosses (path_chord page cs i) (path_chord page cs j) ≡ false
   clear i j l h =

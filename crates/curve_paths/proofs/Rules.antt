@@ -16,7 +16,8 @@ use Rattle.curve_paths.specs.declared.crossing.Crossing.{Crossing}
 use Rattle.curve_paths.specs.declared.path.Cross.{Cross}
 use Rattle.curve_paths.specs.declared.refusal.CurveRefusal.{CurveRefusal}
 use Rattle.curve_paths.specs.declared.refusal.CurveRefusal.TheVariants.{EmptyPath, UnknownLabel, TooManyCrossings, PlaceWrong, NotAdjacent, Crosses}
-use Rattle.curve_paths.specs.PathRules.{crossing_pair, first_of, refusal_of, when}
+use Rattle.obd_base.specs.Options.{first_of, when}
+use Rattle.curve_paths.specs.PathRules.{crossing_pair, refusal_of}
 use Rattle.curve_paths.specs.PathTables.{HaveOccurrences}
 use Rattle.curve_paths.specs.Paths.{crossing, crossings, has_label_places, is_known, is_within, path_chords}
 use Rattle.curve_paths.specs.PlaceTables.{ArePlaced}

@@ -1,6 +1,7 @@
 -- The rules of a curve on a page, tried in their order.
-use Rattle.std.specs.Prelude.{◌≡◌, ℕ, suc, ◌-◌, Bool, not, nat_eq, nat_lt, List, [], ◌∷◌, map, length, find, position, slice_index_or, Option, None, Some, option_map, if◌then◌else◌}
+use Rattle.std.specs.Prelude.{◌≡◌, ℕ, suc, ◌-◌, Bool, not, nat_eq, nat_lt, List, [], ◌∷◌, map, length, find, position, slice_index_or, Option, None, option_map}
 use Rattle.std.specs.List.{flat_map, range_with_len}
+use Rattle.obd_base.specs.Options.{first_of, when}
 use Rattle.obd_base.specs.Lists.{below}
 use Rattle.page_surface.specs.Drawing.{Chord, crosses}
 use Rattle.page_surface.specs.Labels.{Label, labels_of}
@@ -26,10 +27,6 @@ do_cross chords e = let at = λ (i : ℕ). slice_index_or chords i (record { fro
 abbrev pub crossing_pair : List Chord → Option ChordPair
 crossing_pair chords = find (do_cross chords) (pairs_below (length chords))
 
--- a refusal where a rule fails
-abbrev pub when : Bool → CurveRefusal → Option CurveRefusal
-when fails refusal = if fails then Some refusal else None
-
 -- each rule of a curve on a page, in order, with what it refuses
 abbrev pub refusals : List (List Label) → List Cross → List (Option CurveRefusal)
 refusals page path =
@@ -41,12 +38,6 @@ refusals page path =
     ∷ option_map NotAdjacent (find (λ i. not (is_within page cs i)) (below (length cs)))
     ∷ option_map (λ e. Crosses e.first e.second) (crossing_pair (path_chords page cs))
     ∷ []
-
--- the first refusal of some
-abbrev pub first_of : List (Option CurveRefusal) → Option CurveRefusal
-first_of [] = None
-first_of (Some refusal ∷ rest) = Some refusal
-first_of (None ∷ rest) = first_of rest
 
 -- the first rule that fails, if one does
 abbrev pub refusal_of : List (List Label) → List Cross → Option CurveRefusal

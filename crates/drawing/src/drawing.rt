@@ -3,6 +3,7 @@ ghost use Rattle.std.specs.Prelude.{◌≡◌, ◌+◌, ◌<◌, ◌≤◌, ◌^
 ghost use Rattle.std.specs.List.{flat_map};
 ghost use Rattle.page_surface.specs.Drawing.{IsEmbedded, all_exits, exit, points_on, spot, strand_exits, words};
 ghost use Rattle.page_surface.specs.Polygon.{arc_count, sides};
+ghost use Rattle.drawing.specs.Cut.{IsCut};
 ghost use Rattle.drawing.specs.Fingers.{borders, chord_at};
 ghost use Rattle.drawing.specs.Strands.{strand_at};
 ghost use Rattle.drawing.specs.Tight.{IsTight, tight_drawing};
@@ -22,7 +23,7 @@ use std::marker::Model;
 /// second side of arc `i` to the end of its first side, and is cut at its exits; a strand with `m` exits has
 /// `m + 1` chords, numbered from 0 along it. Places on a side are counted from 0 from the side's start, the
 /// exits and the entries together. Contracts see a drawing as its polygon and the list of exits of each strand.
-/// Its type keeps that the drawing is embedded and has fewer than 2^28 points.
+/// Its type keeps that the drawing is embedded, and so cut, and has fewer than 2^28 points.
 pub struct Drawing {
     alloc: Global,
     layout: Layout,
@@ -137,6 +138,7 @@ impl Drawing {
         ensures value { result ≡ length (all_exits self.now) }
         ensures few { result < 2 ^ 28 }
         ensures valid { IsEmbedded self.now }
+        ensures cut { IsCut self.now }
     {
         self.points
     }

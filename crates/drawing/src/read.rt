@@ -3,6 +3,7 @@ ghost use Rattle.std.specs.Prelude.{◌≡◌, ◌<◌, ◌^◌, true, length, m
 ghost use Rattle.std.specs.List.{list_all};
 ghost use Rattle.page_surface.specs.Drawing.{IsEmbedded, all_exits};
 ghost use Rattle.page_surface.specs.Polygon.{arc_count, sides};
+ghost use Rattle.drawing.specs.Cut.{IsCut};
 ghost use Rattle.drawing.specs.Layout.{drawn};
 ghost use Rattle.drawing.specs.Reading.{Says};
 
@@ -43,11 +44,14 @@ impl Drawing {
         requires few { length (all_exits (drawn polygon.now (map (λ s. s.items) strands.now))) < 2 ^ 28 }
         ensures drawing { IfOk result (λ drawing. drawing ≡ drawn polygon.now (map (λ s. s.items) strands.now)) }
         ensures accepted { OnOk result (IsEmbedded (drawn polygon.now (map (λ s. s.items) strands.now))) }
+        ensures cut { OnOk result (IsCut (drawn polygon.now (map (λ s. s.items) strands.now))) }
         ensures refused { IfErr result (Says (drawn polygon.now (map (λ s. s.items) strands.now))) }
     {
         let layout = Layout::of(alloc, polygon.copy()?, copied(alloc, strands)?)?;
         if let Some(side) = first_wrong(alloc, &layout)? {
-            return Err(DrawRefusal::PlaceWrong { side });
+            return Err(DrawRefusal::PlaceWrong {
+                side: side.number(),
+            });
         }
         let _ = layout.polygon();
         if !is_uncrossed(alloc, &layout)? {

@@ -2,13 +2,13 @@
 
 ghost use Rattle.std.specs.Prelude.{◌≡◌};
 
-use obd_base::{NoMemory, SideNo};
+use obd_base::NoMemory;
 
 /// The rules of a drawing, in the order in which they are tried. The first that fails is named.
 #[derive(Debug, Drop)]
 pub enum DrawRefusal {
     /// The exits and entries of a side aren't numbered from 0, each once: the first such side.
-    PlaceWrong { side: SideNo },
+    PlaceWrong { side: u32 },
     /// All places are right, and two chords cross.
     Crosses,
     /// The drawing is embedded, and not all pieces are reached from the piece of gap 0 through glued segments: how

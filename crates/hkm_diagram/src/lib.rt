@@ -61,9 +61,10 @@ impl Diagram {
         &self.drawing
     }
 
-    /// Its drawing, to be changed: the diagram is then that of the changed drawing.
+    /// Its drawing as it stands, to be changed: the diagram is then that of the changed drawing.
     pub fn drawing_mut(&mut self) -> &mut Drawing
-        ensures* { sem 𝓛 (Lends diagram_row drawing_row self.entry result (λ w. w)) }
+        ensures* writes_back { sem 𝓛 (Lends diagram_row drawing_row self.entry result (λ w. w)) }
+        ensures lent { result.now ≡ self.old }
     {
         &mut self.drawing
     }

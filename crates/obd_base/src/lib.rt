@@ -28,6 +28,3 @@ pub use standard::{StdSink, StdSource};
 pub use streams::{Sink, Source};
 pub use text::Text;
 pub use whole::{ReadRefusal, read_all, write_all_of};
-
-#[cfg(test)]
-mod tests;

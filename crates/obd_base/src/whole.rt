@@ -2,7 +2,7 @@
 ghost use Rattle.std.specs.Prelude.{◌≡◌, ◌≢◌, ◌<◌, ◌≤◌, ◌+◌, vec_len, IfOk, OnOk, OnErr, IsErrOf};
 ghost use Rattle.std.specs.Io.KnownBytes.{Appends};
 ghost use Rattle.obd_base.specs.Causes.{Rose};
-ghost use Rattle.obd_base.specs.Streams.{ReadWhole, ReadCount, TookPrefix};
+ghost use Rattle.obd_base.specs.Streams.{ReadWhole, ReadCount, ReadWithin, TookPrefix};
 
 use crate::{Failed, Sink, Source, WriteFault};
 use std::alloc::Global;
@@ -23,9 +23,9 @@ const BLOCK: usize = 4096;
 
 /// All bytes up to the end of the source, at most `limit` of them.
 ///
-/// `InputLong` comes exactly where `limit + 1` bytes were read, and `ReadFault` only where the source's
-/// count of faults rose in this call. Every other answer leaves that count as it was. After a refusal some
-/// bytes have been read. Linear in the bytes, with one read for each piece that the source gives.
+/// `InputLong` comes exactly where `limit + 1` bytes were read. `ReadFault` comes only where the source's
+/// count of faults rose in this call, and then at most `limit` bytes were read. Every other answer leaves
+/// that count as it was. After a refusal some bytes have been read. Linear in the bytes, with one read for each piece that the source gives.
 pub fn read_all<S: Source>(
     alloc: Global,
     source: &mut S,
@@ -37,6 +37,7 @@ pub fn read_all<S: Source>(
 
     ensures long { IsErrOf result ReadRefusal.InputLong → ReadCount (S.left source.old) (S.left source.new) (limit + 1) }
     ensures fault { IsErrOf result ReadRefusal.ReadFault → Rose (S.faults source.old) (S.faults source.new) }
+    ensures fault_within { IsErrOf result ReadRefusal.ReadFault → ReadWithin (S.left source.old) (S.left source.new) limit }
     ensures no_fault { result ≢ Err ReadRefusal.ReadFault → S.faults source.new ≡ S.faults source.old }
 {
     let mut bytes = Vec::new(alloc);

@@ -3,14 +3,15 @@ use Rattle.std.proofs.Common.{◌≡◌, ◌≢◌, ℕ, List, ◌++◌, Option,
 use Rattle.std.specs.Prelude.{IfErr, IfOk}
 use Rattle.std.specs.Result.{IsErrAnd}
 use Rattle.serde_json.specs.Data.{Data}
-use Rattle.obd_doc.specs.Document.{book_of, book_read, book_rules, count_rules, field_rules, fields_of, first_of, refusal_of, value_rules}
+use Rattle.obd_base.specs.Options.{first_of}
+use Rattle.obd_doc.specs.Document.{book_of, book_read, book_rules, count_rules, field_rules, fields_of, refusal_of, value_rules}
 use Rattle.obd_doc.specs.Settled.{Settles}
 use Rattle.obd_doc.specs.Values.{value_of}
 use Rattle.obd_doc.specs.declared.book.Book.{Book}
 use Rattle.obd_doc.specs.declared.fields.Fields.{Fields}
 use Rattle.obd_doc.specs.declared.refusal.DocRefusal.{DocRefusal}
 use Rattle.obd_doc.specs.declared.refusal.DocRefusal.TheVariants.{NoMemory}
-use Rattle.obd_doc.proofs.Rules.{skip, stop}
+use Rattle.obd_base.proofs.Options.{skip, stop}
 
 module _ (bytes : List ℕ) (d : Data) (is : Some d ≡ value_of bytes) where
   by_value : (found : Option DocRefusal) → first_of (value_rules d) ≡ found → refusal_of bytes ≡ found

@@ -5,14 +5,15 @@ use Rattle.std.specs.Str.{bytes_eq}
 use Rattle.page_surface.specs.Labels.{Label}
 use Rattle.page_surface.specs.Page.{refusal_of as page_refusal}
 use Rattle.curve_paths.specs.declared.twist.Twist.{Twist}
-use Rattle.obd_doc.specs.Document.{all_curve_rules, book_of, book_rules, curve_on, first_of, names_of, twist_about, twist_rule}
+use Rattle.obd_base.specs.Options.{first_of}
+use Rattle.obd_doc.specs.Document.{all_curve_rules, book_of, book_rules, curve_on, names_of, twist_about, twist_rule}
 use Rattle.obd_doc.specs.declared.book.NamedCurve.{NamedCurve}
 use Rattle.curve_paths.specs.declared.named.NamedPath.{NamedPath}
 use Rattle.curve_paths.specs.declared.named.NamedTwist.{NamedTwist}
 use Rattle.obd_doc.specs.declared.fields.Fields.{Fields}
 use Rattle.obd_doc.specs.declared.refusal.DocRefusal.{DocRefusal}
 use Rattle.obd_doc.specs.declared.refusal.DocRefusal.TheVariants.{Page as NoPage, UnknownCurve}
-use Rattle.obd_doc.proofs.Rules.{skip, stop}
+use Rattle.obd_base.proofs.Options.{skip, stop}
 
 -- the rule of the page
 abbrev pub page_rule : List (List Label) → List (Option DocRefusal)

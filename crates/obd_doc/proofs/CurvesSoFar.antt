@@ -2,11 +2,12 @@
 use Rattle.std.proofs.Common.{◌≡◌, ℕ, ◌+◌, ◌<◌, ◌≤◌, List, [], ◌∷◌, ◌++◌, map, take, drop, length, get_or, None, Some, String, Global, string_bytes, refl, sym, ◌∙◌, ap}
 use Rattle.std.proofs.lemmas.List.{drop_all, drop_more, map-append, take_more, take_all}
 use Rattle.page_surface.specs.Labels.{Label}
-use Rattle.obd_doc.specs.Document.{all_curve_rules, curve_on, curve_rules, first_of, names_of}
+use Rattle.obd_base.specs.Options.{first_of}
+use Rattle.obd_doc.specs.Document.{all_curve_rules, curve_on, curve_rules, names_of}
 use Rattle.obd_doc.specs.declared.book.NamedCurve.{NamedCurve}
 use Rattle.curve_paths.specs.declared.named.NamedPath.{NamedPath}
 use Rattle.obd_doc.specs.declared.refusal.DocRefusal.{DocRefusal}
-use Rattle.obd_doc.proofs.Rules.{skip, stop}
+use Rattle.obd_base.proofs.Options.{skip, stop}
 
 -- the first curves keep their rules and are made, and what is left are the rules of the others
 pub record AreCurvesSoFar (page : List (List Label)) (paths : List NamedPath) (i : ℕ) (keys : List (String Global)) (curves : List NamedCurve) : Type 0 where

@@ -10,8 +10,9 @@ use Rattle.page_surface.specs.Labels.{Label}
 use Rattle.page_surface.specs.Page.{IsPage, refusal_of as page_refusal, refusals}
 use Rattle.page_surface.specs.declared.refusal.PageRefusal.{PageRefusal}
 use Rattle.page_surface.specs.declared.refusal.PageRefusal.TheVariants.{NoPolygon}
-use Rattle.page_surface.proofs.FewSides.{holds_where_none, none_refuses}
-use Rattle.obd_doc.specs.Document.{IsBook, all_curve_rules, book_of, book_read, book_rules, count_rules, curve_on, field_rules, fields_of, first_of, refusal_of, twist_rule, value_rules}
+use Rattle.obd_base.proofs.Options.{each_none, fails_where_none, none_first, none_rest}
+use Rattle.obd_base.specs.Options.{first_of}
+use Rattle.obd_doc.specs.Document.{IsBook, all_curve_rules, book_of, book_read, book_rules, count_rules, curve_on, field_rules, fields_of, refusal_of, twist_rule, value_rules}
 use Rattle.obd_doc.specs.Values.{value_of}
 use Rattle.obd_doc.specs.declared.book.Book.{Book}
 use Rattle.obd_doc.specs.declared.book.NamedCurve.{NamedCurve}
@@ -27,18 +28,7 @@ on_page page paths = λ k d l.
     let named : NamedPath = record { name = d.name; path = d.path } in
     subst (λ (c : NamedCurve). c.curve ≡ record { page = page; path = c.path }) (sym (get_or-map (curve_on page) paths k named d within)) refl
 
--- where no rule of two lists fails, none of the first fails, and none of the second
-none_first : (rules rest : List (Option DocRefusal)) → first_of (rules ++ rest) ≡ None → first_of rules ≡ None
-none_first [] rest none = refl
-none_first (None ∷ rules) rest none = none_first rules rest none
-none_first (Some refusal ∷ rules) rest none = none
-
-none_rest : (rules rest : List (Option DocRefusal)) → first_of (rules ++ rest) ≡ None → first_of rest ≡ None
-none_rest [] rest none = none
-none_rest (None ∷ rules) rest none = none_rest rules rest none
-none_rest (Some refusal ∷ rules) rest none = absurd (let bad = none in cc)
-
--- so the polygons are a page
+-- where the rule of the page finds nothing, the polygons are a page
 page_accepted : (refusal : Option PageRefusal) → first_of (option_map NoPage refusal ∷ []) ≡ None → refusal ≡ None
 page_accepted None none = refl
 page_accepted (Some refusal) none = absurd (let bad = none in cc)
@@ -65,6 +55,6 @@ read_is_book bytes book is = by_value (value_of bytes) (length bytes) book (refu
 -- a page of no more than one polygon has one
 pub one_polygon : (page : List (List Label)) → IsPage page → nat_lt 1 (length page) ≡ false → length page ≡ 1
 one_polygon page valid few =
-    let rules = none_refuses (refusals page) valid in
-    let some = eqb-false (length page) 0 (holds_where_none (eqb (length page) 0) NoPolygon rules.0) in
+    let rules = each_none (refusals page) valid in
+    let some = eqb-false (length page) 0 (fails_where_none (eqb (length page) 0) NoPolygon rules.0) in
     omega (arith, some, ltb-false 1 (length page) few)

@@ -6,7 +6,8 @@ use Rattle.std.proofs.lemmas.List.{get_or-map, length-map}
 use Rattle.std.proofs.lemmas.List.Sums.{AllPass-from_list_all}
 use Rattle.serde_json.specs.Data.{Data, null}
 use Rattle.curve_paths.specs.PathTables.{HaveOccurrences}
-use Rattle.obd_doc.specs.Document.{curves, first_of, said_or, wanted, when}
+use Rattle.obd_base.specs.Options.{first_of, when}
+use Rattle.obd_doc.specs.Document.{curves, said_or, wanted}
 use Rattle.obd_doc.specs.Kinds.{cross, named_path}
 use Rattle.obd_doc.specs.Reading.{array_of}
 use Rattle.obd_doc.specs.Values.{element, elements, is_whole_in, whole}

@@ -6,23 +6,13 @@ use Rattle.std.proofs.Common.{Result, Ok, Err, ◌≢◌}
 use Rattle.obd_doc.specs.Settled.{Settles}
 use Rattle.serde_json.specs.Data.{Data}
 use Rattle.serde_json.specs.Find.{as_object}
-use Rattle.obd_doc.specs.Document.{first_of, is_field, shape_rules}
+use Rattle.obd_base.specs.Options.{first_of}
+pub use Rattle.obd_base.proofs.Options.{skip, stop}
+use Rattle.obd_doc.specs.Document.{is_field, shape_rules}
 use Rattle.obd_doc.specs.Values.{field_names}
 use Rattle.obd_doc.specs.declared.refusal.DocRefusal.{DocRefusal}
 use Rattle.obd_doc.specs.declared.refusal.DocRefusal.TheVariants.{Field, NoMemory}
 use Rattle.obd_doc.specs.declared.refusal.FieldName.TheVariants as field
-
--- where none of the first rules fails, the others are tried
-pub skip : (rules rest : List (Option DocRefusal)) (found : Option DocRefusal) → first_of rules ≡ None → first_of rest ≡ found → first_of (rules ++ rest) ≡ found
-skip [] rest found none then = then
-skip (None ∷ rules) rest found none then = skip rules rest found none then
-skip (Some refusal ∷ rules) rest found none then = absurd (let bad = none in cc)
-
--- where one fails, they aren't
-pub stop : (rules rest : List (Option DocRefusal)) (refusal : DocRefusal) → first_of rules ≡ Some refusal → first_of (rules ++ rest) ≡ Some refusal
-stop [] rest refusal found = absurd (let bad = found in cc)
-stop (None ∷ rules) rest refusal found = stop rules rest refusal found
-stop (Some first ∷ rules) rest refusal found = found
 
 -- what the rules of an object's shape find, by the test of its fields' names
 abbrev pub by_names : Bool → Option DocRefusal

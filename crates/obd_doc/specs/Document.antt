@@ -5,6 +5,7 @@ use Rattle.std.specs.Option.{option_map_or}
 use Rattle.std.specs.Str.{bytes_eq}
 use Rattle.serde_json.specs.Data.{Data}
 use Rattle.serde_json.specs.Find.{as_object, get}
+use Rattle.obd_base.specs.Options.{first_of, when}
 use Rattle.page_surface.specs.Labels.{Label}
 use Rattle.page_surface.specs.Page.{IsPage, refusal_of as page_refusal}
 use Rattle.curve_paths.specs.PathRules.{refusal_of as curve_refusal}
@@ -24,16 +25,6 @@ use Rattle.obd_doc.specs.declared.refusal.DocRefusal.{DocRefusal}
 use Rattle.obd_doc.specs.declared.refusal.DocRefusal.TheVariants.{Json, Field, Number, TooMany, Page, RepeatedCurve, Curve, UnknownCurve, NoMemory}
 use Rattle.obd_doc.specs.declared.refusal.FieldName.{FieldName}
 use Rattle.obd_doc.specs.declared.refusal.FieldName.TheVariants as field
-
--- a refusal where a rule fails
-abbrev pub when : Bool → DocRefusal → Option DocRefusal
-when fails refusal = if fails then Some refusal else None
-
--- the first refusal of some
-abbrev pub first_of : List (Option DocRefusal) → Option DocRefusal
-first_of [] = None
-first_of (Some refusal ∷ rest) = Some refusal
-first_of (None ∷ rest) = first_of rest
 
 -- the refusal of a field whose value isn't read
 abbrev pub refused : Unread → FieldName → DocRefusal

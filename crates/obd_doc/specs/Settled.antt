@@ -1,7 +1,8 @@
 -- Rules that were tried in their order.
 use Rattle.std.specs.Prelude.{◌≡◌, ◌≢◌, List, Option, None, Some, Result, Ok, Err}
 use Rattle.serde_json.specs.Data.{Data}
-use Rattle.obd_doc.specs.Document.{first_of, said_or}
+use Rattle.obd_base.specs.Options.{first_of}
+use Rattle.obd_doc.specs.Document.{said_or}
 use Rattle.obd_doc.specs.Reading.{Kind}
 use Rattle.obd_doc.specs.declared.refusal.DocRefusal.{DocRefusal}
 use Rattle.obd_doc.specs.declared.refusal.DocRefusal.TheVariants.{NoMemory}

@@ -5,7 +5,8 @@ ghost use Rattle.std.specs.Str.{bytes_eq};
 ghost use Rattle.page_surface.specs.Labels.{all_sides, with_label};
 ghost use Rattle.page_surface.specs.Page.{refusal_of as page_refusal};
 ghost use Rattle.curve_paths.specs.PathTables.{HaveOccurrences};
-ghost use Rattle.obd_doc.specs.Document.{all_curve_rules, book_of, book_read, book_rules, count_rules, curve_on, curve_rules, names_of, refusal_of, twist_about, when};
+ghost use Rattle.obd_base.specs.Options.{when};
+ghost use Rattle.obd_doc.specs.Document.{all_curve_rules, book_of, book_read, book_rules, count_rules, curve_on, curve_rules, names_of, refusal_of, twist_about};
 ghost use Rattle.obd_doc.specs.Settled.{Settles};
 ghost use Rattle.obd_doc.specs.declared.refusal.DocRefusal.TheVariants.{Page as NoPage, TooMany, UnknownCurve};
 

@@ -146,12 +146,12 @@ fn exits_are_read(rt: HostRuntime) -> Result<(), Fail> {
         (
             "ABAB",
             "2.1 | 3.0",
-            "PlaceWrong { side: SideNo { number: 0 } }",
+            "PlaceWrong { side: 0 }",
         ),
         (
             "ABAB",
             "3.0 3.2 | 0.0",
-            "PlaceWrong { side: SideNo { number: 1 } }",
+            "PlaceWrong { side: 1 }",
         ),
         ("ABAB", "3.0 | 2.0", "3.0 | 2.0 "),
     ] {

@@ -1,15 +1,15 @@
 -- A page has at most 48 sides, since it has at most 24 labels and each stands twice.
-use Rattle.std.proofs.Common.{◌≡◌, ℕ, suc, ◌*◌, ◌≤◌, Bool, true, false, cond, eqb, ltb, not, List, [], ◌∷◌, length, Option, Some, None, option_map, refl, sym, arith, inl, inr}
+use Rattle.std.proofs.Common.{◌≡◌, ℕ, suc, ◌*◌, ◌≤◌, true, cond, eqb, ltb, not, List, [], ◌∷◌, length, None, refl, sym, arith, inl, inr}
 use Rattle.std.specs.List.{list_any, sum_by, count_by, find}
 use Rattle.std.specs.Str.{bytes_eq}
 use Rattle.std.proofs.lemmas.Bool.{cases_Bool, false≢true, ltb-false, eqb-true}
 use Rattle.std.proofs.lemmas.List.Sums.{sum_by-cons}
 use Rattle.std.proofs.lemmas.Slice.Eq.{bytes_eq-Decides}
-use Rattle.page_surface.specs.declared.refusal.PageRefusal.{PageRefusal}
 use Rattle.page_surface.specs.declared.refusal.PageRefusal.TheVariants.{TooManyLabels, LabelCount}
 use Rattle.page_surface.specs.Labels.{Label, with_label, with_labels, labels_of, all_sides, occurrences_of}
 use Rattle.page_surface.proofs.LabelNumbers.{has_new, has_still}
-use Rattle.page_surface.specs.Page.{IsPage, when, first_of, refusals}
+use Rattle.obd_base.proofs.Options.{each_none, fails_where_none, none_mapped}
+use Rattle.page_surface.specs.Page.{IsPage, refusals}
 
 -- the label stands among the others
 abbrev pub IsAmong : List Label → Label → Type 0
@@ -73,38 +73,17 @@ twice_each f (label ∷ labels) none = elim (cases_Bool (eqb (f label) 2)) [
   | inr other ↦ absurd (let bad = rw other at none in cc)
 ]
 
--- none of these refuses
-abbrev pub NoneOf : List (Option PageRefusal) → Type 0
-NoneOf [] = Unit {0}
-NoneOf (refusal ∷ rest) = (refusal ≡ None) × NoneOf rest
-
--- where there is no first refusal, none of the rules refuses
-pub none_refuses : (refusals : List (Option PageRefusal)) → first_of refusals ≡ None → NoneOf refusals
-none_refuses [] none = tt
-none_refuses (None ∷ rest) none = (refl, none_refuses rest none)
-none_refuses (Some refusal ∷ rest) none = absurd (let bad = none in cc)
-
--- a rule that doesn't refuse holds
-pub holds_where_none : (fails : Bool) (refusal : PageRefusal) → when fails refusal ≡ None → fails ≡ false
-holds_where_none false refusal none = refl
-holds_where_none true refusal none = absurd (let bad = none in cc)
-
--- where nothing that was found is refused, nothing was found
-pub none_found : {A : Type 0} (f : A → PageRefusal) (found : Option A) → option_map f found ≡ None → found ≡ None
-none_found f None none = refl
-none_found f (Some found) none = absurd (let bad = none in cc)
-
 -- a page has at most two sides for each of its labels
 pub two_a_label : (polygons : List (List Label)) → IsPage polygons → length (all_sides polygons) ≤ 2 * length (labels_of polygons)
 two_a_label polygons page =
-    let rules = none_refuses (refusals polygons) page in
-    let twice = twice_each (occurrences_of polygons) (labels_of polygons) (none_found (λ label. LabelCount label (occurrences_of polygons label)) _ rules.1.1.1.1.0) in
+    let rules = each_none (refusals polygons) page in
+    let twice = twice_each (occurrences_of polygons) (labels_of polygons) (none_mapped (λ label. LabelCount label (occurrences_of polygons label)) _ rules.1.1.1.1.0) in
     let counted = sides_counted (all_sides polygons) (labels_of polygons) (sides_among_with_labels (all_sides polygons) []) in
     omega (arith, twice, counted)
 
 -- a page has at most 48 sides
 pub few_sides : (polygons : List (List Label)) → IsPage polygons → length (all_sides polygons) ≤ 48
 few_sides polygons page =
-    let rules = none_refuses (refusals polygons) page in
-    let few_labels = ltb-false 24 _ (holds_where_none (ltb 24 (length (labels_of polygons))) (TooManyLabels (length (labels_of polygons))) rules.1.1.1.0) in
+    let rules = each_none (refusals polygons) page in
+    let few_labels = ltb-false 24 _ (fails_where_none (ltb 24 (length (labels_of polygons))) (TooManyLabels (length (labels_of polygons))) rules.1.1.1.0) in
     omega (arith, few_labels, two_a_label polygons page)

@@ -6,7 +6,7 @@ use Rattle.std.proofs.lemmas.List.{get_or-map, get_or_read, length-map}
 use Rattle.std.proofs.lemmas.List.Folds.{find_at}
 use Rattle.std.proofs.lemmas.Option.{get_or_from_slice_get, slice_get_past, slice_get_within}
 use Rattle.page_surface.specs.Labels.{Label, labels_of, occurrences_of}
-use Rattle.page_surface.specs.Page.{first_of}
+use Rattle.obd_base.specs.Options.{first_of}
 use Rattle.page_surface.specs.Stages.{label_rules}
 use Rattle.page_surface.specs.declared.refusal.PageRefusal.TheVariants.{LabelCount}
 use Rattle.page_surface.proofs.Keys.{position-map}

@@ -1,7 +1,8 @@
 -- The rules of a page, tried in their order.
-use Rattle.std.specs.Prelude.{◌≡◌, ℕ, zero, suc, ◌+◌, ◌-◌, Bool, true, false, not, nat_eq, nat_lt, ◌||◌, List, [], ◌∷◌, length, filter, find, position, slice_index_or, Option, None, Some, option_map, if◌then◌else◌}
+use Rattle.std.specs.Prelude.{◌≡◌, ℕ, zero, suc, ◌+◌, ◌-◌, Bool, true, false, not, nat_eq, nat_lt, ◌||◌, List, [], ◌∷◌, length, filter, find, position, slice_index_or, Option, None, option_map}
 use Rattle.std.specs.List.{list_any, range_with_len}
 use Rattle.std.specs.Str.{bytes_eq}
+use Rattle.obd_base.specs.Options.{first_of, when}
 use Rattle.page_surface.specs.Labels.{Label, labels_of, occurrences_of}
 use Rattle.page_surface.specs.declared.refusal.PageRefusal.{PageRefusal}
 use Rattle.page_surface.specs.declared.refusal.PageRefusal.TheVariants.{NoPolygon, TooManyPolygons, EmptyPolygon, TooManyLabels, LabelCount, NotJoined, TooManyArcs, DiskPage}
@@ -31,10 +32,6 @@ reached_count polygons = length (reached_within polygons (length polygons))
 abbrev pub arc_number : List (List Label) → ℕ
 arc_number polygons = length (labels_of polygons) + 1 - length polygons
 
--- a refusal where a rule fails
-abbrev pub when : Bool → PageRefusal → Option PageRefusal
-when fails refusal = if fails then Some refusal else None
-
 -- each rule of a page, in order, with what it refuses
 abbrev pub refusals : List (List Label) → List (Option PageRefusal)
 refusals polygons =
@@ -48,12 +45,6 @@ refusals polygons =
     ∷ when (nat_lt 8 (arc_number polygons)) (TooManyArcs (arc_number polygons))
     ∷ when (nat_eq (arc_number polygons) 0) DiskPage
     ∷ []
-
--- the first refusal of some
-abbrev pub first_of : List (Option PageRefusal) → Option PageRefusal
-first_of [] = None
-first_of (Some refusal ∷ rest) = Some refusal
-first_of (None ∷ rest) = first_of rest
 
 -- the first rule that fails, if one does
 abbrev pub refusal_of : List (List Label) → Option PageRefusal

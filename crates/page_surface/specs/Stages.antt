@@ -1,7 +1,8 @@
 -- The rules of a page in three stages, each tried on what the one before it lets through.
 use Rattle.std.specs.Prelude.{not, nat_eq, nat_lt, List, [], ◌∷◌, length, find, position, Option, option_map}
 use Rattle.page_surface.specs.Labels.{Label, labels_of, occurrences_of}
-use Rattle.page_surface.specs.Page.{is_empty, reached_count, arc_number, when}
+use Rattle.obd_base.specs.Options.{when}
+use Rattle.page_surface.specs.Page.{is_empty, reached_count, arc_number}
 use Rattle.page_surface.specs.declared.refusal.PageRefusal.{PageRefusal}
 use Rattle.page_surface.specs.declared.refusal.PageRefusal.TheVariants.{NoPolygon, TooManyPolygons, EmptyPolygon, TooManyLabels, LabelCount, NotJoined, TooManyArcs, DiskPage}
 

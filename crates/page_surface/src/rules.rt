@@ -1,7 +1,8 @@
 // The rules of a page, stage by stage.
 ghost use Rattle.std.specs.Prelude.{◌≡◌, ◌<◌, ◌≤◌, ◌^◌, map, position, length, nat_eq, not, string_bytes, None, IfOk};
 ghost use Rattle.page_surface.specs.Labels.{labels_of};
-ghost use Rattle.page_surface.specs.Page.{first_of, is_empty};
+ghost use Rattle.obd_base.specs.Options.{first_of};
+ghost use Rattle.page_surface.specs.Page.{is_empty};
 ghost use Rattle.page_surface.specs.Stages.{polygon_rules, label_rules, joining_rules};
 
 use crate::PageRefusal;

@@ -1,6 +1,6 @@
 use Rattle.std.proofs.Common.{◌≡◌, ◌∙◌, ap, map, position, string_bytes, sym, refl, [], ◌∷◌, None, Some, option_map}
 use Rattle.std.specs.Str.{bytes_eq}
-use Rattle.obd_doc.specs.Document.{first_of}
+use Rattle.obd_base.specs.Options.{first_of}
 use Rattle.obd_doc.specs.declared.refusal.DocRefusal.TheVariants.{UnknownCurve}
 use Rattle.page_surface.proofs.Keys.{position-of_text}
 use Rattle.obd_doc.proofs.TwistsSoFar.{all_known, twist_known, twist_unknown}

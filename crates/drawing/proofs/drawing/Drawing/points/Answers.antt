@@ -1,0 +1,7 @@
+use Rattle.std.proofs.Common.{subst}
+use Rattle.page_surface.specs.Drawing.{IsEmbedded}
+use Rattle.drawing.proofs.Laws.{always_cut}
+use Rattle.drawing.proofs.drawing.Drawing.points.Goals as goal
+
+pub returns-clause-cut : goal.returns-clause-cut
+returns-clause-cut c = always_cut _ (subst IsEmbedded c.self.view_is c.self.invariant.embedded)
