@@ -1,3 +1,4 @@
+pub mod BookWords
 mod Built
 mod Certified
 mod Collected

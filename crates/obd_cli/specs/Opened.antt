@@ -4,6 +4,7 @@ use Rattle.page_surface.specs.Labels.{Label, labels_of}
 use Rattle.curve_paths.specs.declared.named.NamedPath.{NamedPath}
 use Rattle.curve_paths.specs.declared.named.NamedTwist.{NamedTwist}
 use Rattle.witness_check.specs.OpenBook.{OpenBook}
+use Rattle.obd_doc.specs.Document.{by_name, curve_names}
 use Rattle.obd_doc.specs.declared.book.Book.{Book}
 use Rattle.obd_doc.specs.declared.book.NamedCurve.{NamedCurve}
 
@@ -13,7 +14,7 @@ paths_of curves = map (λ curve. record { name = curve.name; path = curve.path }
 
 -- the twist word by the names of the curves
 abbrev pub named_twists : Book → List NamedTwist
-named_twists book = map (λ twist. record { name = slice_index_or (map (λ curve. curve.name) book.curves) twist.curve []; power = twist.power }) book.twists
+named_twists book = map (by_name (curve_names book)) book.twists
 
 -- its page, curves, slides and twist word
 abbrev pub open_book : Book → OpenBook

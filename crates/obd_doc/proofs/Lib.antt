@@ -2,6 +2,7 @@ mod Accepted
 mod BookRules
 mod Occurrences
 mod CurvesSoFar
+mod FirstNamed
 mod TwistsSoFar
 mod Rules
 mod SoFar

@@ -1,5 +1,5 @@
 -- What a document says, and the rules that it is refused by, tried in their order.
-use Rattle.std.specs.Prelude.{◌≡◌, ℕ, Bool, not, nat_lt, List, [], ◌∷◌, ◌++◌, map, length, position, codes, is_none, is_some, Option, None, Some, option_map, if◌then◌else◌}
+use Rattle.std.specs.Prelude.{◌≡◌, ℕ, Bool, not, nat_lt, List, [], ◌∷◌, ◌++◌, map, length, position, slice_index_or, codes, is_none, is_some, Option, None, Some, option_map, if◌then◌else◌}
 use Rattle.std.specs.List.{All, list_all, list_any, position_or_len}
 use Rattle.std.specs.Option.{option_map_or}
 use Rattle.std.specs.Str.{bytes_eq}
@@ -161,8 +161,18 @@ book_of f = record {
 abbrev pub book_read : List ℕ → Option Book
 book_read bytes = if is_none (refusal_of bytes) then option_map (λ d. book_of (fields_of d)) (value_of bytes) else None
 
--- what is known of a book that was read: its polygons are a page, and each curve is one on that page
+-- the names of a book's curves
+abbrev pub curve_names : Book → List (List ℕ)
+curve_names book = map (λ curve. curve.name) book.curves
+
+-- a twist by the name of its curve
+abbrev pub by_name : List (List ℕ) → Twist → NamedTwist
+by_name names twist = record { name = slice_index_or names twist.curve []; power = twist.power }
+
+-- what is known of a book that was read: its polygons are a page, each curve is one on that page, and each twist is about the
+-- first curve of its name
 pub record IsBook (book : Book) : Type 0 where
   pub is_page : IsPage book.page
   pub page_is : book.page ≡ book.polygons
   pub curves_on_page : All (λ c. c.curve ≡ record { page = book.page; path = c.path }) book.curves
+  pub first_of_name : map (twist_about (curve_names book)) (map (by_name (curve_names book)) book.twists) ≡ book.twists

@@ -1,3 +1,4 @@
+pub mod Examples
 mod Joined
 pub mod Laws
 mod Numbered
