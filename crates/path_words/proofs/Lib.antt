@@ -3,6 +3,7 @@ pub mod Crossing
 pub mod CurvePlanar
 pub mod CurvePoints
 pub mod CurveWords
+mod Cuts
 pub mod Homs
 pub mod Laws
 pub mod Letters

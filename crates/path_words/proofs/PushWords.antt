@@ -15,6 +15,7 @@ use Rattle.obd_base.proofs.lists.Members.{mem_append, mem_left, mem_map, mem_rig
 use Rattle.page_surface.specs.Drawing.{is_at}
 use Rattle.page_surface.specs.Polygon.{Pairs, Polygon, partner, sides}
 use Rattle.page_surface.specs.Words.{inverse, push_letter, reduced}
+use Rattle.page_surface.proofs.WordLaws.{Free-reduced, reduced_free}
 use Rattle.curve_paths.specs.Curves.{IsCurve, curve_entry, curve_points, passed, push_at, rho, signed, turned}
 use Rattle.path_words.specs.Pushes.{reduced_pushes}
 use Rattle.path_words.proofs.Letters.{from_back, from_cancelled}
@@ -144,6 +145,12 @@ module _ (p : Polygon) (ok : Pairs p) where
     pushes_in_range pushes is k d l i e m =
         let at = table_at pushes is k d l in
         sides_reduced k (get_or (get_or pushes k d) i e) (subst (Mem (get_or (get_or pushes k d) i e)) at (mem_get_or (get_or pushes k d) i e m))
+
+    -- are reduced
+    pub pushes_reduced : (pushes : List (List ℕ)) → pushes ≡ reduced_pushes p c sign → All (λ push. reduced p push ≡ push) pushes
+    pushes_reduced pushes is k d l =
+        let at = table_at pushes is k d l in
+        ap (reduced p) at ∙ (reduced_free p (reduced p (push_at p c sign k)) (Free-reduced p (push_at p c sign k)) ∙ sym at)
 
     -- and are short
     pub pushes_short : length c ≤ 32 → (pushes : List (List ℕ)) → pushes ≡ reduced_pushes p c sign → All (λ push. length push ≤ 2048) pushes

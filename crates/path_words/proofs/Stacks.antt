@@ -19,7 +19,7 @@ pub reduced_again : (p : Polygon) (word built : List ℕ) → word ≡ reduced p
 reduced_again p word built is = rw is (reduced_free p (reduced p built) (Free-reduced p built))
 
 -- a word that is its own reduced form has no pair
-free_word : (p : Polygon) (word : List ℕ) → reduced p word ≡ word → Free p word
+pub free_word : (p : Polygon) (word : List ℕ) → reduced p word ≡ word → Free p word
 free_word p word is = subst (Free p) is (Free-reduced p word)
 
 -- the last letter of a word

@@ -16,12 +16,13 @@ reduced_pushes p c sign = map (λ k. reduced p (push_at p c sign k)) (below (sid
 abbrev pub push_of : List (List ℕ) → ℕ → List ℕ
 push_of pushes k = slice_index_or pushes k []
 
--- a table with a word of at most 2,048 sides for each of at most 16 sides
+-- a table with a reduced word of at most 2,048 sides for each of at most 16 sides
 pub record IsPushTable (p : Polygon) (pushes : List (List ℕ)) : Type 0 where
   pub valid : IsPolygon p
   pub few_sides : sides p ≤ 16
   pub each : length pushes ≡ sides p
   pub in_range : All (λ push. All (λ s. s < sides p) push) pushes
+  pub are_reduced : All (λ push. reduced p push ≡ push) pushes
   pub short : All (λ push. length push ≤ 2048) pushes
 
 -- the word of an arc's strand with the words of a table set along the sides that it passes, reduced

@@ -1,5 +1,5 @@
 // The reduced image of a word, from the pushes along all sides.
-ghost use Rattle.std.specs.Prelude.{◌≡◌, ◌<◌, ◌≤◌, ◌+◌, ◌*◌, ◌++◌, length, All, IfOk, OnOk};
+ghost use Rattle.std.specs.Prelude.{◌≡◌, ◌<◌, ◌≤◌, ◌+◌, ◌-◌, ◌*◌, ◌%◌, ◌++◌, length, All, IfOk, OnOk};
 ghost use Rattle.std.specs.List.{flat_map};
 ghost use Rattle.page_surface.specs.Polygon.{sides};
 ghost use Rattle.page_surface.specs.Words.{reduced};
@@ -18,8 +18,41 @@ fn previous_gap(polygon: &Polygon, side: SideNo) -> SideNo
     ensures value { result ≡ gap_before polygon.now side }
     ensures in_range { result < sides polygon.now }
 {
+    let number = side.number();
+    if number == 0 {
+        SideNo::new(polygon.sides() - 1)
+    } else {
+        SideNo::new(number - 1)
+    }
+}
+
+// The side after a side, counterclockwise.
+fn next_side(polygon: &Polygon, side: SideNo) -> SideNo
+    requires { side < sides polygon.now }
+    ensures value { result ≡ (side + 1) % sides polygon.now }
+    ensures in_range { result < sides polygon.now }
+{
     let sides = polygon.sides();
-    SideNo::new((side.number() + sides - 1) % sides)
+    let next = side.number() + 1;
+    if next == sides {
+        SideNo::new(0)
+    } else {
+        SideNo::new(next)
+    }
+}
+
+// How many sides are passed counterclockwise from one gap to another.
+fn passed_count(polygon: &Polygon, from: SideNo, to: SideNo) -> u32
+    requires from { from < sides polygon.now }
+    requires to { to < sides polygon.now }
+    ensures { result ≡ (to + sides polygon.now - from) % sides polygon.now }
+{
+    let (from, to) = (from.number(), to.number());
+    if from <= to {
+        to - from
+    } else {
+        to + polygon.sides() - from
+    }
 }
 
 // Sets what the twist sets on the way from one gap to another, counterclockwise.
@@ -39,11 +72,9 @@ fn put_passed(
     ensures in_range { OnOk result (All (λ s. s < sides polygon.now) word.new.items) }
     ensures is_reduced { OnOk result (reduced polygon.now word.new.items ≡ word.new.items) }
 {
-    let sides = polygon.sides();
-    let first = from.number() + 1;
-    let count = (to.number() + sides - from.number()) % sides;
-    for step in 0..count {
-        let side = SideNo::new((first + step) % sides);
+    let mut side = from;
+    for step in 0..passed_count(polygon, from, to) {
+        side = next_side(polygon, side);
         put_letters(polygon, word, pushes.along(side))?;
     }
     Ok(())

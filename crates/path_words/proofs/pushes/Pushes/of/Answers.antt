@@ -5,7 +5,7 @@ use Rattle.page_surface.specs.Polygon.{sides}
 use Rattle.page_surface.specs.Words.{reduced}
 use Rattle.curve_paths.specs.Curves.{push_at}
 use Rattle.path_words.specs.Pushes.{reduced_pushes}
-use Rattle.path_words.proofs.PushWords.{pushes_in_range, pushes_more, pushes_short}
+use Rattle.path_words.proofs.PushWords.{pushes_in_range, pushes_more, pushes_reduced, pushes_short}
 use Rattle.path_words.proofs.pushes.Pushes.of.Goals as goal
 use Rattle.path_words.proofs.pushes.Pushes.of.Goals.{After-loop-side}
 
@@ -35,5 +35,6 @@ returns-clause-table c =
       few_sides = omega (arith, c.sides-side-end.ensures.value, c.sides-side-end.ensures.most);
       each = ap length (all c) ∙ length-map-range_with_len (λ (k : ℕ). reduced p (push_at p c.args.curve.now c.args.sign k)) 0 (sides p);
       in_range = pushes_in_range p ok c.args.curve.now c.requires c.args.sign c.loop-side.words (all c);
+      are_reduced = pushes_reduced p ok c.args.curve.now c.requires c.args.sign c.loop-side.words (all c);
       short = pushes_short p ok c.args.curve.now c.requires c.args.sign c.exits-exits.ensures.most c.loop-side.words (all c);
     }
