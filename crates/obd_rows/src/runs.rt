@@ -1,7 +1,7 @@
 // Runs of the top call over the ends in memory.
 use crate::calls::answer_of;
-use obd_base::{MemSink, MemSource, NullSink, SureSource};
-use obd_cli::{DOCUMENT_LIMIT, Status, run};
+use obd_base::{MemSink, SureSource};
+use obd_cli::{Status, run};
 use std::alloc::Global;
 use std::test::Fail;
 
@@ -109,122 +109,5 @@ fn no_word_gives_the_usage_line(rt: HostRuntime) -> Result<(), Fail> {
     let mut sink = MemSink::new(alloc, 1000, 100, Vec::new(alloc))?;
     assert_eq!(rt; run(alloc, &[], &mut source, &mut sink), Status::Usage);
     assert_eq!(rt; sink.taken(), USAGE.as_bytes());
-    Ok(())
-}
-
-// How a run with one word ends over a source whose first read fails, and what it writes.
-fn unread(alloc: Global, word: &str) -> Result<String, Fail> {
-    let words = words(alloc, &[word])?;
-    let mut source = MemSource::new(ANNULUS.as_bytes().to_vec(alloc)?, 16, vec![in alloc; 1]?);
-    let mut sink = MemSink::new(alloc, 1000, 100, Vec::new(alloc))?;
-    let status = run(alloc, &words, &mut source, &mut sink);
-    let Ok(text) = str::from_utf8(sink.taken()) else {
-        return Err(Fail::new("not UTF-8"));
-    };
-    Ok(format!(in alloc; "{status:?}: {text}")?)
-}
-
-#[test]
-fn words_that_are_no_command_give_the_usage_line(rt: HostRuntime) -> Result<(), Fail> {
-    let alloc = rt.alloc();
-    for word in ["solve", "", "Decide", "decide "] {
-        assert_eq!(rt;
-            unread(alloc, word)?.as_str(),
-            "Usage: usage: obd decide | page | check | sample SEED TWISTS\n",
-            "{word}"
-        );
-    }
-    Ok(())
-}
-
-// How a run of `decide` ends where one read of the annulus fails, and how many bytes it writes.
-fn read_failing(alloc: Global, failing: u32) -> Result<String, Fail> {
-    let decide = words(alloc, &["decide"])?;
-    let bytes = ANNULUS.as_bytes().to_vec(alloc)?;
-    let mut source = MemSource::new(bytes, 16, vec![in alloc; failing]?);
-    let mut sink = MemSink::new(alloc, 1000, 100, Vec::new(alloc))?;
-    let status = run(alloc, &decide, &mut source, &mut sink);
-    Ok(format!(in alloc; "{status:?} {}", sink.taken().len())?)
-}
-
-#[test]
-fn a_source_that_fails_at_any_read_leaves_nothing_written(rt: HostRuntime) -> Result<(), Fail> {
-    let alloc = rt.alloc();
-    // In pieces of 16 the document takes four reads, and its end a fifth.
-    for (failing, want) in [
-        (1, "ReadFault 0"),
-        (2, "ReadFault 0"),
-        (3, "ReadFault 0"),
-        (4, "ReadFault 0"),
-        (5, "ReadFault 0"),
-        (6, "Done 191"),
-    ] {
-        assert_eq!(rt; read_failing(alloc, failing)?.as_str(), want, "{failing}");
-    }
-    Ok(())
-}
-
-#[test]
-fn a_sink_that_fails_at_its_second_write_has_the_first_piece(rt: HostRuntime) -> Result<(), Fail> {
-    let alloc = rt.alloc();
-    let decide = words(alloc, &["decide"])?;
-    let mut source = SureSource::new(ANNULUS.as_bytes().to_vec(alloc)?);
-    let mut sink = MemSink::new(alloc, 1000, 100, vec![in alloc; 2]?)?;
-    assert_eq!(rt;
-        run(alloc, &decide, &mut source, &mut sink),
-        Status::WriteFault
-    );
-    assert_eq!(rt; sink.taken().len(), 100);
-    assert!(rt; sink.taken().ends_with(b"strand 0 1"));
-    assert!(rt; ANNULUS_TEXT.as_bytes().starts_with(sink.taken()));
-    Ok(())
-}
-
-#[test]
-fn the_text_fits_into_room_for_191_bytes(rt: HostRuntime) -> Result<(), Fail> {
-    let alloc = rt.alloc();
-    let decide = words(alloc, &["decide"])?;
-    for (room, status) in [(190, Status::WriteFault), (191, Status::Done)] {
-        let mut source = SureSource::new(ANNULUS.as_bytes().to_vec(alloc)?);
-        let mut sink = MemSink::new(alloc, room, 200, Vec::new(alloc))?;
-        assert_eq!(rt;
-            run(alloc, &decide, &mut source, &mut sink),
-            status,
-            "{room}"
-        );
-        assert_eq!(rt; sink.taken().len(), room, "{room}");
-    }
-    Ok(())
-}
-
-#[test]
-fn one_byte_above_the_limit_is_refused(rt: HostRuntime) -> Result<(), Fail> {
-    let alloc = rt.alloc();
-    let decide = words(alloc, &["decide"])?;
-    for (size, text) in [
-        (DOCUMENT_LIMIT, "refused 2 Json 1048576\n"),
-        (DOCUMENT_LIMIT + 1, "refused 1 InputLong 1048576\n"),
-    ] {
-        let mut source = SureSource::new(vec![in alloc; 32; size]?);
-        let mut sink = MemSink::new(alloc, 1000, 100, Vec::new(alloc))?;
-        assert_eq!(rt;
-            run(alloc, &decide, &mut source, &mut sink),
-            Status::Refused,
-            "{size}"
-        );
-        assert_eq!(rt; sink.taken(), text.as_bytes(), "{size}");
-    }
-    Ok(())
-}
-
-#[test]
-fn a_sink_that_tells_nothing_takes_the_text(rt: HostRuntime) -> Result<(), Fail> {
-    let alloc = rt.alloc();
-    let decide = words(alloc, &["decide"])?;
-    let mut source = SureSource::new(ANNULUS.as_bytes().to_vec(alloc)?);
-    assert_eq!(rt;
-        run(alloc, &decide, &mut source, &mut NullSink::new()),
-        Status::Done
-    );
     Ok(())
 }
