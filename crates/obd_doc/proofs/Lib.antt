@@ -8,3 +8,6 @@ mod Rules
 mod SoFar
 mod Text
 pub mod Laws
+mod Few
+mod Parts
+mod Sizes

@@ -8,6 +8,7 @@ ghost use Rattle.curve_paths.specs.PathTables.{HaveOccurrences};
 ghost use Rattle.obd_base.specs.Options.{when};
 ghost use Rattle.obd_doc.specs.Document.{all_curve_rules, book_of, book_read, book_rules, count_rules, curve_on, curve_rules, names_of, refusal_of, twist_about};
 ghost use Rattle.obd_doc.specs.Settled.{Settles};
+ghost use Rattle.obd_doc.specs.Sizes.{ListsFewer};
 ghost use Rattle.obd_doc.specs.declared.refusal.DocRefusal.TheVariants.{Page as NoPage, TooMany, UnknownCurve};
 
 use crate::book::{Book, NamedCurve};
@@ -20,21 +21,12 @@ use obd_base::{Items, Name, NoMemory};
 use page_surface::{Page, PageRefusal};
 use std::alloc::Global;
 
-// A number of items as a number of 32 bits. More of them than that are taken for want of memory.
-fn count_of(len: usize) -> Result<u32, NoMemory>
-    ensures { IfOk result (λ count. count ≡ len) }
-{
-    match u32::try_from(len) {
-        Ok(count) => Ok(count),
-        Err(_) => Err(NoMemory),
-    }
-}
-
 // There are at most so many entries in a field.
 fn check_count(len: usize, most: u32, field: FieldName) -> Result<(), DocRefusal>
+    requires { len < 2 ^ 32 }
     ensures { Settles (when (nat_lt most len) (TooMany field len) ∷ []) tt result }
 {
-    let count = count_of(len)?;
+    let count = len as u32;
     if count > most {
         Err(DocRefusal::TooMany { field, count })
     } else {
@@ -44,6 +36,7 @@ fn check_count(len: usize, most: u32, field: FieldName) -> Result<(), DocRefusal
 
 // There are at most 32 curves, 256 twists and 64 slides.
 fn check_counts(fields: &Fields) -> Result<(), DocRefusal>
+    requires { ListsFewer fields.now (2 ^ 32) }
     ensures { Settles (count_rules fields.now) tt result }
 {
     check_count(fields.curves.len(), 32, FieldName::Curves)?;
@@ -62,20 +55,12 @@ fn strings(alloc: Global, names: &[Name]) -> Result<Vec<String>, NoMemory>
     Ok(strings)
 }
 
-// The labels of some polygons as strings, fewer than 2^32 of both.
+// The labels of some polygons as strings.
 fn polygon_strings(alloc: Global, polygons: &[Items<Name>]) -> Result<Vec<Vec<String>>, NoMemory>
-    ensures texts { IfOk result (λ strings. map (λ p. map string_bytes p.items) strings.items ≡ polygons.now) }
-    ensures few_polygons { IfOk result (λ strings. length strings.items < 2 ^ 32) }
-    ensures few { IfOk result (λ _. length (all_sides polygons.now) < 2 ^ 32) }
+    ensures { IfOk result (λ strings. map (λ p. map string_bytes p.items) strings.items ≡ polygons.now) }
 {
-    count_of(polygons.len())?;
-    let mut sides = 0u32;
     let mut texts = Vec::new(alloc);
     for polygon in polygons {
-        let Some(more) = sides.checked_add(count_of(polygon.len())?) else {
-            return Err(NoMemory);
-        };
-        sides = more;
         texts.push(strings(alloc, polygon.as_slice())?)?;
     }
     Ok(texts)
@@ -83,6 +68,8 @@ fn polygon_strings(alloc: Global, polygons: &[Items<Name>]) -> Result<Vec<Vec<St
 
 // The page of some polygons.
 fn page(alloc: Global, polygons: &Items<Items<Name>>) -> Result<Page, DocRefusal>
+    requires few_polygons { length polygons.now < 2 ^ 32 }
+    requires few_sides { length (all_sides polygons.now) < 2 ^ 32 }
     ensures { Settles (option_map NoPage (page_refusal polygons.now) ∷ []) polygons.now result }
 {
     let texts = polygon_strings(alloc, polygons.as_slice())?;
@@ -109,7 +96,8 @@ fn curve(
     names: &mut IndexSet<String>,
     named: &NamedPath,
 ) -> Result<NamedCurve, DocRefusal>
-    requires { HaveOccurrences named.now.path }
+    requires occurrences { HaveOccurrences named.now.path }
+    requires few { length named.now.path < 2 ^ 32 }
     ensures settled { Settles (curve_rules page.now (map string_bytes names.old.keys) named.now) (curve_on page.now named.now) result }
     ensures names { OnOk result (map string_bytes names.new.keys ≡ map string_bytes names.old.keys ++ named.now.name ∷ []) }
 {
@@ -118,7 +106,6 @@ fn curve(
         return Err(DocRefusal::RepeatedCurve { name });
     }
     let path = named.path.as_slice();
-    count_of(path.len())?;
     match PageCurve::new(alloc, page, path) {
         Ok(curve) => Ok(NamedCurve {
             name,
@@ -139,6 +126,7 @@ fn curves(
 ) -> Result<Items<NamedCurve>, DocRefusal>
     requires none { names.old.keys ≡ [] }
     requires occurrences { All (λ named. HaveOccurrences named.path) paths.now }
+    requires few { All (λ named. length named.path < 2 ^ 32) paths.now }
     ensures settled { Settles (all_curve_rules page.now [] paths.now) (map (curve_on page.now) paths.now) result }
     ensures names { OnOk result (map string_bytes names.new.keys ≡ names_of paths.now) }
 {
@@ -165,10 +153,11 @@ fn twists(
     names: &IndexSet<String>,
     entries: &[NamedTwist],
 ) -> Result<Items<Twist>, DocRefusal>
+    requires few_names { length names.now.keys < 2 ^ 32 }
+    requires few_entries { length entries.now < 2 ^ 32 }
     ensures { Settles (option_map UnknownCurve (position (λ twist. not (list_any (bytes_eq twist.name) (map string_bytes names.now.keys))) entries.now) ∷ [])
         (map (twist_about (map string_bytes names.now.keys)) entries.now) result }
 {
-    count_of(entries.len())?;
     let mut twists = Items::new(alloc);
     for (number, entry) in entries.iter().enumerate() {
         let Some(curve) = names.get_index_of(entry.name.as_str()) else {
@@ -176,14 +165,15 @@ fn twists(
                 twist: number as u32,
             });
         };
-        twists.push(twist(count_of(curve)?, entry))?;
+        twists.push(twist(curve as u32, entry))?;
     }
     Ok(twists)
 }
 
 // The book that the fields give.
 fn book(alloc: Global, fields: Fields) -> Result<Book, DocRefusal>
-    requires { All (λ named. HaveOccurrences named.path) fields.curves }
+    requires occurrences { All (λ named. HaveOccurrences named.path) fields.curves }
+    requires few { ListsFewer fields (2 ^ 32) }
     ensures { Settles (book_rules fields) (book_of fields) result }
 {
     let page = page(alloc, &fields.polygons)?;

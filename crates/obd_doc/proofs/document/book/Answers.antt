@@ -1,5 +1,7 @@
-use Rattle.std.proofs.Common.{map, string_bytes}
+use Rattle.std.proofs.Common.{ap, arith, length, map, string_bytes}
+use Rattle.std.proofs.lemmas.List.{length-map}
 use Rattle.obd_doc.specs.Document.{book_of, book_rules}
+use Rattle.obd_doc.specs.declared.entries.NamedPath.{NamedPath}
 use Rattle.obd_doc.proofs.BookRules.{book_made, curves_refused, twists_refused}
 use Rattle.obd_doc.proofs.Rules.{given_on}
 use Rattle.obd_doc.proofs.document.book.Goals as goal
@@ -8,6 +10,17 @@ pub returns-in_err-curves : goal.returns-in_err-curves
 returns-in_err-curves c =
     given_on (book_rules c.args.fields) (book_of c.args.fields) _ _ c.from_residual-in_err-curves.ensures.1
     (λ other. curves_refused c.args.fields c.in_ok-page.page c.as_slice.result.now c.in_ok-page.ensures.1 c.as_slice.ensures c.in_ok-page.ensures.0 _ (c.in_err-curves.ensures.settled other))
+
+pub twists-requires-clause-few_names : goal.twists-requires-clause-few_names
+twists-requires-clause-few_names c =
+    omega (
+      arith,
+      length-map c.curves.new.names.keys string_bytes,
+      length-map c.as_slice.result.now (λ (p : NamedPath). p.name),
+      ap length c.in_ok-curves.ensures.names,
+      ap length c.as_slice.ensures,
+      c.requires.few.curves,
+    )
 
 pub returns-in_err-twists : goal.returns-in_err-twists
 returns-in_err-twists c =

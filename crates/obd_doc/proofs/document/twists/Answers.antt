@@ -21,8 +21,7 @@ loop-number-preserved c =
     let entry = c.index-entries-number.result in
     let found : position (bytes_eq entry.name) names ≡ Some c.in-Some.curve
     = ap (λ text. position (bytes_eq text) names) (sym c.as_str.ensures) ∙ (sym (position-of_text c.as_str.result.now c.args.names.now.keys names refl) ∙ (sym c.get_index_of.ensures.index ∙ c.in-Some.is)) in
-    twist_known names c.args.entries.now c.loop-number.number entry c.loop-number-test.true c.index-entries-number.is c.loop-number.twists c.loop-number.invariant c.in-Some.curve _ _ found
-    (c.twist.ensures ∙ ap (λ n. record { curve = n; power = entry.power }) c.in_ok-count_of-2.ensures) c.in_ok-push.ensures.ok
+    twist_known names c.args.entries.now c.loop-number.number entry c.loop-number-test.true c.index-entries-number.is c.loop-number.twists c.loop-number.invariant c.in-Some.curve _ _ found c.twist.ensures c.in_ok-push.ensures.ok
 
 pub returns : goal.returns
 returns c =
