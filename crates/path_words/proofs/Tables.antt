@@ -8,9 +8,10 @@ use Rattle.obd_base.specs.declared.points.Exit.{Exit}
 use Rattle.obd_base.specs.declared.points.Sign.{Sign}
 use Rattle.page_surface.specs.Polygon.{IsPolygon, Polygon, first_side, partner, second_side, sides}
 use Rattle.page_surface.specs.Words.{reduced}
+use Rattle.page_surface.proofs.WordLaws.{Free-reduced, reduced_free}
 use Rattle.curve_paths.specs.Curves.{gap_before, image, passed, push_at, twisted, with_words}
 use Rattle.path_words.specs.Alphabet.{Alike, Alphabet, cancelled}
-use Rattle.path_words.specs.Pushes.{push_of, reduced_pushes, strands_with}
+use Rattle.path_words.specs.Pushes.{push_of, reduced_pushes, strand_with, strands_with}
 use Rattle.path_words.proofs.PushWords.{length_product, passed_in_range, table_product}
 use Rattle.path_words.proofs.Reduction.{alike_after, alike_cancelled, alike_join}
 use Rattle.path_words.proofs.SideLetters.{reduced_is, side_letters}
@@ -83,3 +84,28 @@ module _ (p : Polygon) (few_sides : sides p ≤ 16) (some : 0 < sides p) (pushes
         length-way u (gap_before p s),
         length-with_words w (partner p s) v,
       )
+
+-- empty words in a row
+none_set : (f : ℕ → List ℕ) → ((k : ℕ) → f k ≡ []) → (xs : List ℕ) → flat_map f xs ≡ []
+none_set f none [] = refl
+none_set f none (x ∷ xs) = ap₂ (λ a b. a ++ b) (none x) (none_set f none xs)
+
+module _ (p : Polygon) (pushes : List (List ℕ)) (none : (k : ℕ) → push_of pushes k ≡ []) where
+  -- with nothing set a word stays
+  same_word : (w : List ℕ) (u v : ℕ) → with_words p (push_of pushes) w u v ≡ w
+  same_word [] u v = none_set (push_of pushes) none (passed p u v)
+  same_word (s ∷ w) u v = ap₂ (λ a b. a ++ (s ∷ b)) (none_set (push_of pushes) none (passed p u (gap_before p s))) (same_word w (partner p s) v)
+
+  -- and words are reduced
+  only_reduced : (n : ℕ) (ws : List (List ℕ)) → map (λ (e : ℕ × List ℕ). strand_with p pushes e.0 e.1) (enumerate_from n ws) ≡ map (reduced p) ws
+  only_reduced n [] = refl
+  only_reduced n (w ∷ ws) = ap₂ (λ x xs. x ∷ xs) (ap (reduced p) (same_word w (second_side p n) (first_side p n))) (only_reduced (n + 1) ws)
+
+  reduced_twice : (ws : List (List ℕ)) → map (reduced p) (map (reduced p) ws) ≡ map (reduced p) ws
+  reduced_twice [] = refl
+  reduced_twice (w ∷ ws) = ap₂ (λ x xs. x ∷ xs) (reduced_free p (reduced p w) (Free-reduced p w)) (reduced_twice ws)
+
+  -- so a second time changes nothing
+  pub twice_as_once : (ws : List (List ℕ)) → strands_with p pushes (strands_with p pushes ws) ≡ strands_with p pushes ws
+  twice_as_once ws =
+      only_reduced 0 (strands_with p pushes ws) ∙ (ap (map (reduced p)) (only_reduced 0 ws) ∙ (reduced_twice ws ∙ sym (only_reduced 0 ws)))

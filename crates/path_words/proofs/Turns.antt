@@ -1,7 +1,8 @@
 -- Single twists one after another.
-use Rattle.std.proofs.Common.{◌≡◌, ℕ, zero, suc, ◌+◌, ◌-◌, ◌<◌, ◌≤◌, List, [], ◌∷◌, length, refl, sym, ◌∙◌, ap, arith}
+use Rattle.std.proofs.Common.{◌≡◌, ◌≢◌, ℕ, zero, suc, ◌+◌, ◌-◌, ◌<◌, ◌≤◌, List, [], ◌∷◌, length, refl, sym, ◌∙◌, ap, arith, inl, inr, min}
 use Rattle.std.specs.Prelude.{Result, Ok, Err, IfErr}
 use Rattle.std.specs.Result.{IsErrAnd}
+use Rattle.std.proofs.lemmas.Bool.{cases_eq, cases_lt}
 use Rattle.obd_base.specs.declared.points.Exit.{Exit}
 use Rattle.obd_base.specs.declared.points.Sign.{Sign}
 use Rattle.page_surface.specs.Polygon.{IsPolygon, Polygon}
@@ -9,9 +10,9 @@ use Rattle.curve_paths.specs.Curves.{twisted}
 use Rattle.curve_paths.specs.Twists.{going_on, letters, limited, times, turned_by}
 use Rattle.path_words.specs.declared.refusal.TwistRefusal.{TwistRefusal}
 use Rattle.path_words.specs.declared.refusal.TwistRefusal.TheVariants.{TooLong}
-use Rattle.path_words.specs.Pushes.{reduced_pushes, strands_with}
-use Rattle.path_words.proofs.Tables.{strands_twisted}
-use Rattle.path_words.proofs.Turning.{limited_within}
+use Rattle.path_words.specs.Pushes.{push_of, reduced_pushes, strands_with}
+use Rattle.path_words.proofs.Tables.{strands_twisted, twice_as_once}
+use Rattle.path_words.proofs.Turning.{limited_long, limited_within}
 
 -- a curve that crosses no side changes nothing, however often
 pub times_none : (p : Polygon) (sign : Sign) (n : ℕ) (ws : List (List ℕ)) → letters ws ≤ 4000 → times p [] sign n ws ≡ Ok ws
@@ -31,6 +32,39 @@ module _ (p : Polygon) (c : List Exit) (sign : Sign) where
   pub set_is_turned : IsPolygon p → 1 ≤ length c → (pushes : List (List ℕ)) → pushes ≡ reduced_pushes p c sign → (ws : List (List ℕ))
       → limited (strands_with p pushes ws) ≡ limited (turned_by p c sign ws)
   set_is_turned ok some pushes are ws = ap limited (strands_twisted p ok c sign pushes are ws ∙ sym (turned_by_some ws some))
+
+  module _ (ok : IsPolygon p) (some : 1 ≤ length c) (pushes : List (List ℕ)) (are : pushes ≡ reduced_pushes p c sign) (none : (k : ℕ) → push_of pushes k ≡ []) where
+    turned_twice : (ws : List (List ℕ)) → turned_by p c sign (turned_by p c sign ws) ≡ turned_by p c sign ws
+    turned_twice ws =
+        let is : (xs : List (List ℕ)) → turned_by p c sign xs ≡ strands_with p pushes xs = λ xs. turned_by_some xs some ∙ sym (strands_twisted p ok c sign pushes are xs) in
+        is (turned_by p c sign ws) ∙ (ap (strands_with p pushes) (is ws) ∙ (twice_as_once p pushes none ws ∙ sym (is ws)))
+
+    -- words that a twist leaves as they are stay so
+    times_same : (n : ℕ) (ws : List (List ℕ)) → turned_by p c sign ws ≡ ws → letters ws ≤ 4000 → times p c sign n ws ≡ Ok ws
+    times_same zero ws same few = refl
+    times_same (suc n) ws same few =
+        ap (going_on (times p c sign n)) (ap limited same ∙ limited_within ws ws refl few) ∙ times_same n ws same few
+
+    -- where no push has a letter, all single twists do what one does
+    times_one : (n : ℕ) (ws : List (List ℕ)) → times p c sign 1 ws ≡ times p c sign (suc n) ws
+    times_one n ws = elim (cases_lt 4000 (letters (turned_by p c sign ws))) [
+      | inl l ↦ (let long = limited_long (turned_by p c sign ws) _ refl l in ap (going_on (times p c sign 0)) long ∙ sym (ap (going_on (times p c sign n)) long))
+      | inr l ↦
+          let short = limited_within (turned_by p c sign ws) (turned_by p c sign ws) refl l in
+          ap (going_on (times p c sign 0)) short ∙ sym (ap (going_on (times p c sign n)) short ∙ times_same n (turned_by p c sign ws) (turned_twice ws) l)
+    ]
+
+    times_few : (turns : ℕ) (ws : List (List ℕ)) → times p c sign (min turns 1) ws ≡ times p c sign turns ws
+    times_few zero ws = let e : min 0 1 ≡ 0 = omega arith in ap (λ n. times p c sign n ws) e
+    times_few (suc n) ws = let e : min (suc n) 1 ≡ 1 = omega arith in ap (λ n. times p c sign n ws) e ∙ times_one n ws
+
+  -- so as many as are needed do what all do
+  pub times_needed : IsPolygon p → 1 ≤ length c → (pushes : List (List ℕ)) → pushes ≡ reduced_pushes p c sign → (turns needed : ℕ)
+      → (needed ≢ turns → needed ≡ min turns 1) → (needed ≢ turns → (k : ℕ) → push_of pushes k ≡ []) → (ws : List (List ℕ)) → times p c sign needed ws ≡ times p c sign turns ws
+  times_needed ok some pushes are turns needed few none ws = elim (cases_eq needed turns) [
+    | inl e ↦ ap (λ n. times p c sign n ws) e
+    | inr ne ↦ ap (λ n. times p c sign n ws) (few ne) ∙ times_few ok some pushes are (none ne) turns ws
+  ]
 
   -- what is left starts with one single twist
   pub times_next : (turns turn : ℕ) (ws : List (List ℕ)) → turn < turns → times p c sign (turns - turn) ws ≡ going_on (times p c sign (turns - (turn + 1))) (limited (turned_by p c sign ws))

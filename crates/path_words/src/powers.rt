@@ -1,7 +1,8 @@
 // Powers of a Dehn twist on the words of all strands.
-ghost use Rattle.std.specs.Prelude.{◌≡◌, ℕ, Ok, Err, IfOk, IfErr, IfSome, option_map};
+ghost use Rattle.std.specs.Prelude.{◌≡◌, ◌≢◌, ℕ, [], min, Ok, Err, IfOk, IfErr, IfSome, option_map};
 ghost use Rattle.curve_paths.specs.Curves.{IsCurve};
 ghost use Rattle.curve_paths.specs.Twists.{AreWords, by_power as words_by_power, exits_of, times};
+ghost use Rattle.path_words.specs.Pushes.{push_of};
 
 use crate::once::turned_once;
 use crate::pushes::Pushes;
@@ -10,6 +11,18 @@ use curve_paths::Curve;
 use obd_base::{Items, SideNo, Sign};
 use page_surface::Polygon;
 use std::alloc::Global;
+
+// How many single twists do what so many do. Where no push has a letter one reduces the words, and more do no more.
+fn turns_needed(pushes: &Pushes, turns: u32) -> u32
+    ensures needed { result ≢ turns → result ≡ min turns 1 }
+    ensures empty { result ≢ turns → (k : ℕ) → push_of pushes.now k ≡ [] }
+{
+    if pushes.are_empty() {
+        turns.min(1)
+    } else {
+        turns
+    }
+}
 
 // So many single twists one after another, along a curve that crosses a side. Its pushes are made once.
 fn repeated(
@@ -29,7 +42,7 @@ fn repeated(
 {
     let pushes = Pushes::of(alloc, polygon, curve, sign)?;
     let mut now = words;
-    for turn in 0..turns {
+    for turn in 0..turns_needed(&pushes, turns) {
         now = turned_once(alloc, polygon, &pushes, now.as_slice())?;
     }
     Ok(now)
@@ -43,7 +56,8 @@ fn repeated(
 /// `TooLong` comes exactly where after some single twist the words have more than 4,000 letters together, with
 /// the number of the first such twist's letters. The pushes are made and reduced once for the power, in no more
 /// steps than the square of twice the curve's exits; beyond that each single twist is linear in the letters of the
-/// words and in those that are set. The form is this project's own.
+/// words and in those that are set, and a curve that bounds a disk takes one single twist for all. The form is this
+/// project's own.
 pub fn by_power(
     alloc: Global,
     polygon: &Polygon,

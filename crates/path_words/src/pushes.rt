@@ -1,5 +1,5 @@
 // The pushes of a twist along a curve: the word that is set where a path passes a side.
-ghost use Rattle.std.specs.Prelude.{◌≡◌, ◌<◌, ◌≤◌, ◌++◌, ◌&&◌, nat_eq, length, map, All, IfOk, OnOk};
+ghost use Rattle.std.specs.Prelude.{◌≡◌, ◌<◌, ◌≤◌, ◌++◌, ◌&&◌, ℕ, [], nat_eq, length, map, All, IsTrue, IfOk, OnOk};
 ghost use Rattle.std.specs.List.{position_or_len};
 ghost use Rattle.page_surface.specs.Drawing.{is_at};
 ghost use Rattle.page_surface.specs.Polygon.{IsPolygon, partner, sides};
@@ -194,6 +194,18 @@ impl Pushes {
             words.push(Items::from_vec(push))?;
         }
         Ok(Pushes { words })
+    }
+
+    // No push has a letter.
+    pub(crate) fn are_empty(&self) -> bool
+        ensures { IsTrue result → (k : ℕ) → push_of self.now k ≡ [] }
+    {
+        for push in self.words.as_slice() {
+            if !push.as_slice().is_empty() {
+                return false;
+            }
+        }
+        true
     }
 
     // The push along a side.

@@ -65,6 +65,9 @@ pub(crate) fn put_letters(
     ensures in_range { OnOk result (All (λ s. s < sides polygon.now) word.new.items) }
     ensures is_reduced { OnOk result (reduced polygon.now word.new.items ≡ word.new.items) }
 {
+    if letters.is_empty() {
+        return Ok(());
+    }
     let count = cancelled_count(polygon, word, letters);
     word.truncate(word.len() - count);
     word.extend_from_slice(&letters[count..])?;
