@@ -6,7 +6,6 @@ use Rattle.drawing.specs.declared.finger.Finger.{Finger}
 use Rattle.witness_check.specs.Belonging.{LeadTo}
 use Rattle.witness_check.proofs.Laws.{identity_leads}
 use Rattle.obd_cli.specs.Steps.{IsMoved}
-use Rattle.obd_cli.specs.declared.moves.Moved.{Moved}
 
 -- with no finger it is the last drawing itself
 pub no_finger : (d seen : Drawing) (strands : List (List Exit)) (fingers : List Finger) → d ≡ identity d.polygon → seen ≡ d → IsEmbedded seen → strands ≡ seen.strands → fingers ≡ []

@@ -1,5 +1,5 @@
 -- The curves of a book on its page joined, one after another, and the surface that they make.
-use Rattle.std.proofs.Common.{◌≡◌, ℕ, ◌+◌, ◌<◌, List, [], ◌∷◌, ◌++◌, All, length, map, take, get_or, Option, Some, refl, sym, ◌∙◌, ap, subst}
+use Rattle.std.proofs.Common.{◌≡◌, ℕ, ◌+◌, ◌<◌, List, [], ◌∷◌, ◌++◌, All, length, map, take, get_or, Option, Some, sym, ◌∙◌, ap, subst}
 use Rattle.std.specs.Prelude.{IfSome}
 use Rattle.std.proofs.lemmas.List.{map-append, take_more}
 use Rattle.obd_base.specs.declared.points.Exit.{Exit}
@@ -10,7 +10,7 @@ use Rattle.curve_paths.specs.Curves.{IsCurve}
 use Rattle.curve_paths.specs.PathTables.{PagePath}
 use Rattle.curve_paths.specs.Through.{exits_through}
 use Rattle.curve_paths.specs.Twists.{exits_of}
-use Rattle.witness_check.specs.OpenBook.{Surface as Shown, joined_surface}
+use Rattle.witness_check.specs.OpenBook.{joined_surface}
 use Rattle.obd_doc.specs.Document.{IsBook}
 use Rattle.obd_doc.specs.declared.book.Book.{Book}
 use Rattle.obd_doc.specs.declared.book.NamedCurve.{NamedCurve}

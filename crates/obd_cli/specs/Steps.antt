@@ -1,7 +1,7 @@
 -- What each step of a run makes of a book.
 use Rattle.std.specs.Prelude.{◌≡◌, ℕ, ◌≤◌, List, map, length, All, IfSome}
 use Rattle.obd_base.specs.declared.points.Column.{Column}
-use Rattle.page_surface.specs.Drawing.{Drawing, identity}
+use Rattle.page_surface.specs.Drawing.{Drawing}
 use Rattle.page_surface.specs.Joining.{joined}
 use Rattle.page_surface.specs.Polygon.{IsPolygon}
 use Rattle.arc_basis.specs.Basis.{joined_polygon}

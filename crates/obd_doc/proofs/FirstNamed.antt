@@ -1,12 +1,11 @@
 -- Each twist of a document is about the first curve of its name.
-use Rattle.std.proofs.Common.{◌≡◌, ℕ, suc, ◌+◌, arith, Bool, inl, inr, true, false, not, List, [], ◌∷◌, map, get_or, position, None, Option, Some, option_map, refl, sym, ◌∙◌, ap}
+use Rattle.std.proofs.Common.{◌≡◌, ℕ, suc, ◌+◌, arith, Bool, inl, inr, true, false, not, List, [], ◌∷◌, map, get_or, position, None, refl, sym, ◌∙◌, ap}
 use Rattle.std.specs.List.{list_any, position_or_len}
 use Rattle.std.specs.Str.{bytes_eq}
 use Rattle.std.proofs.lemmas.Bool.{cases_Bool, false≢true, or_parts}
 use Rattle.std.proofs.lemmas.Slice.Eq.{bytes_eq-Decides}
 use Rattle.curve_paths.specs.declared.named.NamedPath.{NamedPath}
 use Rattle.curve_paths.specs.declared.named.NamedTwist.{NamedTwist}
-use Rattle.curve_paths.specs.declared.twist.Twist.{Twist}
 use Rattle.page_surface.specs.Labels.{Label}
 use Rattle.obd_doc.specs.Document.{by_name, curve_on, names_of, twist_about}
 use Rattle.obd_doc.specs.declared.book.NamedCurve.{NamedCurve}

@@ -164,11 +164,7 @@ pub fn put_numbered<T: Word>(
 
 /// Appends a line of a kind for each row, with its number, counted from 0, and its words.
 #[tactic(auto, unfolding(crate::specs::Line::lines))]
-pub fn put_rows<T: Word>(
-    text: &mut Text,
-    kind: &str,
-    rows: &[Items<T>],
-) -> Result<(), NoMemory>
+pub fn put_rows<T: Word>(text: &mut Text, kind: &str, rows: &[Items<T>]) -> Result<(), NoMemory>
     ensures { OnOk result (text.new ≡ text.old ++ row_lines kind.now T.word rows.now) }
 {
     for (number, words) in rows.iter().enumerate() {
