@@ -8,7 +8,7 @@ use Rattle.obd_base.specs.Lists.{Mem, below}
 use Rattle.obd_base.specs.declared.points.Exit.{Exit}
 use Rattle.obd_base.proofs.Options.{NoneOf, each_none, fails_where_none, none_mapped}
 use Rattle.obd_base.proofs.lists.Below.{below_mem, range_mem}
-use Rattle.obd_base.proofs.lists.Members.{mem_left, mem_right}
+use Rattle.obd_base.proofs.lists.Members.{mem_flat, mem_to_map}
 use Rattle.page_surface.specs.declared.page.SideLabel.{SideLabel}
 use Rattle.page_surface.specs.Drawing.{crosses, exit}
 use Rattle.page_surface.specs.Joining.{Joined, is_side, other_side, is_split, join_all, joined, polygon_of}
@@ -42,21 +42,11 @@ fails_for q (y ∷ xs) x none m = elim (cases_Bool (q y)) [
   | inr f ↦ elim m [ inl e ↦ (ap q e ∙ f) | inr k ↦ fails_for q xs x (rw f at none) k ]
 ]
 
-mem_image : {X Y : Type 0} (f : X → Y) (x : X) (xs : List X) → Mem x xs → Mem (f x) (map f xs)
-mem_image f x [] m = absurd m
-mem_image f x (y ∷ xs) (inl e) = inl (ap f e)
-mem_image f x (y ∷ xs) (inr m) = inr (mem_image f x xs m)
-
-mem_joined : {X Y : Type 0} (f : X → List Y) (x : X) (y : Y) (xs : List X) → Mem x xs → Mem y (f x) → Mem y (flat_map f xs)
-mem_joined f x y [] m k = absurd m
-mem_joined f x y (z ∷ xs) (inl e) k = mem_left y (f z) (flat_map f xs) (subst (λ w. Mem y (f w)) e k)
-mem_joined f x y (z ∷ xs) (inr m) k = mem_right y (f z) (flat_map f xs) (mem_joined f x y xs m k)
-
 -- each two numbers below n are one of the pairs
 pair_there : (n i j : ℕ) → i < j → j < n → Mem (pair i j) (pairs_below n)
 pair_there n i j l h =
-    mem_joined (λ i. map (pair i) (range_with_len (suc i) (n - suc i))) i (pair i j) (below n) (below_mem n i (omega arith))
-    (mem_image (pair i) j (range_with_len (suc i) (n - suc i)) (range_mem (suc i) (n - suc i) j (omega arith) (omega arith)))
+    mem_flat (λ i. map (pair i) (range_with_len (suc i) (n - suc i))) (below n) i (pair i j) (below_mem n i (omega arith))
+    (mem_to_map (pair i) j (range_with_len (suc i) (n - suc i)) (range_mem (suc i) (n - suc i) j (omega arith) (omega arith)))
 
 -- what a path that keeps the rules has
 module _ (page : List (List Label)) (path : List Cross) (kept : IsPath page path) where

@@ -17,7 +17,7 @@ use Rattle.drawing.proofs.Lists.{mem_flat, written_back}
 use Rattle.drawing.proofs.Spots.{offset_rises, offset_suc}
 use Rattle.drawing.proofs.ThinTables.{begins}
 use Rattle.drawing.proofs.Thinned.{points_thinned}
-use Rattle.drawing.proofs.tight.Maps.{map_same}
+use Rattle.obd_base.proofs.lists.Maps.{map_same}
 
 module _ (p : Polygon) (strands : List (List Exit)) (d : Drawing) (seen : drawn p strands ≡ d) (offsets : List ℕ) (laid : IsLaidOut (drawn p strands) offsets) (ok : IsEmbedded d)
     (gone : List Bool) (places : List ℕ) (room : span_count d ≤ length gone) (places_room : span_count d ≤ length places) (numbered : AreNumbered d (is_gone gone) (sides d.polygon) places) where

@@ -12,7 +12,7 @@ use Rattle.page_surface.specs.Polygon.{IsPolygon, Polygon, arc_count, partner, s
 use Rattle.drawing.specs.Layout.{IsLaidOut, IsWritten, count_on, drawn, offsets_of}
 use Rattle.drawing.specs.Pieces.{span_count}
 use Rattle.drawing.proofs.Spots.{offset_rises, offset_suc}
-use Rattle.drawing.proofs.tight.Maps.{map_same}
+use Rattle.obd_base.proofs.lists.Maps.{map_same}
 
 -- a sum of numbers that are at most 2
 sum_within : {X : Type 0} (f : X → ℕ) (xs : List X) → ((x : X) → f x ≤ 2) → sum_by f xs ≤ 2 * length xs

@@ -1,26 +1,13 @@
 -- Members of joined lists, the first number that passes a test, and lists written back whole.
-use Rattle.std.proofs.Common.{◌≡◌, ℕ, zero, suc, ◌<◌, Bool, true, false, List, [], ◌∷◌, ◌++◌, drop, map, length, get_or, take, eqb, refl, sym, ◌∙◌, ap, subst, arith, zero-add, inl, inr}
+use Rattle.std.proofs.Common.{◌≡◌, ℕ, zero, suc, ◌<◌, Bool, true, false, List, [], ◌∷◌, ◌++◌, drop, length, get_or, take, eqb, refl, sym, ◌∙◌, subst, arith, zero-add, inl, inr}
 use Rattle.std.specs.List.{flat_map, position_or_len, sum_by}
 use Rattle.std.proofs.lemmas.List.{append-nil, drop_all, take_all}
 use Rattle.std.proofs.lemmas.List.Sums.{sum_by-cons, position_or_len_is, fails_before_first}
 use Rattle.std.proofs.lemmas.List.FromFn.{length-range_with_len, get_or-range_with_len}
 use Rattle.std.proofs.lemmas.Bool.{cases_Bool, eqb-true, eq-eqb, false≢true}
 use Rattle.obd_base.specs.Lists.{below, has, Mem}
-use Rattle.obd_base.proofs.lists.Members.{mem_append, mem_left, mem_right}
-
--- a member of one of the lists is a member of all of them joined
-pub mem_flat : {X Y : Type 0} (g : X → List Y) (xs : List X) (x : X) (y : Y) → Mem x xs → Mem y (g x) → Mem y (flat_map g xs)
-mem_flat g [] x y m n = absurd m
-mem_flat g (z ∷ xs) x y (inl e) n = mem_left y (g z) (flat_map g xs) (subst (λ w. Mem y (g w)) e n)
-mem_flat g (z ∷ xs) x y (inr m) n = mem_right y (g z) (flat_map g xs) (mem_flat g xs x y m n)
-
--- and comes from one
-pub flat_mem : {X Y : Type 0} (g : X → List Y) (xs : List X) (y : Y) → Mem y (flat_map g xs) → (x : X) × Mem x xs × Mem y (g x)
-flat_mem g [] y m = absurd m
-flat_mem g (z ∷ xs) y m = elim (mem_append y (g z) (flat_map g xs) m) [
-  | inl k ↦ (z, inl refl, k)
-  | inr k ↦ let (x, i, n) = flat_mem g xs y k in (x, inr i, n)
-]
+use Rattle.obd_base.proofs.lists.Members.{mem_left, mem_right}
+pub use Rattle.obd_base.proofs.lists.Members.{flat_mem, mem_flat, mem_to_map}
 
 -- a member of a row is a member of all rows joined
 pub mem_row : {X : Type 0} (rows : List (List X)) (i : ℕ) (x : X) → Mem x (get_or rows i []) → Mem x (flat_map (λ s. s) rows)
@@ -33,12 +20,6 @@ pub mem_at : {X : Type 0} (xs : List X) (i : ℕ) (x : X) → i < length xs → 
 mem_at [] i x l e = absurd (omega arith)
 mem_at (y ∷ xs) zero x l e = inl e
 mem_at (y ∷ xs) (suc i) x l e = inr (mem_at xs i x (omega arith) e)
-
--- a map takes members to members
-pub mem_to_map : {A B : Type 0} (f : A → B) (x : A) (xs : List A) → Mem x xs → Mem (f x) (map f xs)
-mem_to_map f x [] m = absurd m
-mem_to_map f x (y ∷ xs) (inl e) = inl (ap f e)
-mem_to_map f x (y ∷ xs) (inr m) = inr (mem_to_map f x xs m)
 
 -- the first number below n that passes
 pub first_is : (p : ℕ → Bool) (n s : ℕ) → s < n → p s ≡ true → ((t : ℕ) → t < s → p t ≡ false) → position_or_len p (below n) ≡ s

@@ -12,7 +12,7 @@ use Rattle.obd_base.specs.declared.points.Exit.{Exit}
 use Rattle.page_surface.specs.Drawing.{exit}
 use Rattle.drawing.specs.ThinTables.{IsKnown, is_gone, moved_offsets, number_of, points_left, thinned_by}
 use Rattle.drawing.proofs.Lists.{mem_at}
-use Rattle.drawing.proofs.tight.Maps.{map_same}
+use Rattle.obd_base.proofs.lists.Maps.{map_same}
 
 -- an item that isn't moved yet is there,
 pub still_there : (start now : List Exit) (at : ℕ) → drop at now ≡ drop at start → at < length start → at < length now

@@ -15,8 +15,8 @@ use Rattle.drawing.proofs.Diagram.{spot_in}
 use Rattle.drawing.proofs.Ends.{place_in, same_count, side_in}
 use Rattle.drawing.proofs.Lists.{mem_flat, mem_row}
 use Rattle.drawing.proofs.tight.KeptPlaces
-use Rattle.drawing.proofs.tight.Maps.{map_same}
-use Rattle.drawing.proofs.tight.Numbered.{enum_same, numbered_at}
+use Rattle.obd_base.proofs.lists.Maps.{map_same}
+use Rattle.obd_base.proofs.lists.Numbered.{enum_same, numbered_at}
 use Rattle.drawing.proofs.tight.Tightened.{loosened_same, loosened_then, loosened_turn}
 use Rattle.drawing.proofs.tight.TurnCounts.{kept_far, kept_near, row, row_kept}
 use Rattle.drawing.proofs.tight.TurnGone.{IsElse, gone_back, gone_else, gone_out, kept_exits, kept_lowered, kept_meet}

@@ -1,8 +1,6 @@
 -- Tight drawings: the order of their points, and how turns are taken out.
 pub mod GoalOrder
 pub mod KeptPlaces
-pub mod Maps
-pub mod Numbered
 mod TurnExample
 pub mod StrandWays
 pub mod TightPlaces

@@ -23,9 +23,9 @@ const BLOCK: usize = 4096;
 
 /// All bytes up to the end of the source, at most `limit` of them.
 ///
-/// `InputLong` comes exactly where `limit + 1` bytes were read. `ReadFault` comes only where the source's
-/// count of faults rose in this call, and then at most `limit` bytes were read. Every other answer leaves
-/// that count as it was. After a refusal some bytes have been read. Linear in the bytes, with one read for each piece that the source gives.
+/// `InputLong` comes where `limit + 1` bytes were read, and another refusal then only for want of memory.
+/// `ReadFault` comes only where the source's count of faults rose in this call, and then at most `limit` bytes
+/// were read. Every other answer leaves that count as it was. After a refusal some bytes have been read. Linear in the bytes, with one read for each piece that the source gives.
 pub fn read_all<S: Source>(
     alloc: Global,
     source: &mut S,

@@ -11,7 +11,7 @@ use Rattle.page_surface.specs.Drawing.{Drawing, IsEmbedded, all_exits, offset, p
 use Rattle.page_surface.specs.Polygon.{partner, sides}
 use Rattle.drawing.specs.Thinned.{IsAlike, places_kept, thinned, thinned_exit, thinned_exits}
 use Rattle.drawing.specs.Turns.{lowered_place}
-use Rattle.drawing.proofs.tight.Maps.{sum_one}
+use Rattle.obd_base.proofs.lists.Maps.{sum_one}
 use Rattle.drawing.proofs.Ends.{place_in, side_in, same_count}
 
 module _ (p q : ℕ → Bool) (s m : ℕ) (first : p s ≡ true) (second : p (suc s) ≡ true) (no_first : q s ≡ false) (no_second : q (suc s) ≡ false)

@@ -17,7 +17,7 @@ use Rattle.drawing.specs.Tight.{goals, goals_on, goals_back, goals_at, comes_fir
 use Rattle.drawing.proofs.Ends.{place_in, side_in, same_count}
 use Rattle.drawing.proofs.Lists.{mem_flat, mem_row}
 use Rattle.drawing.proofs.Spots.{stands_below, places_below}
-use Rattle.drawing.proofs.tight.Numbered.{numbered_at, enum_split, enum_sum, enum_again}
+use Rattle.obd_base.proofs.lists.Numbered.{numbered_at, enum_split, enum_sum, enum_again}
 use Rattle.drawing.proofs.tight.StrandWays.{first_of, letters, on_straight, back_straight, way_on, way_back}
 use Rattle.drawing.proofs.tight.Ways.{Way, NoTurn, HasGoals, goals_by_places}
 

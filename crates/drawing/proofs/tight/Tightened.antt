@@ -13,7 +13,7 @@ use Rattle.page_surface.specs.Polygon.{Polygon, partner, arc_count}
 use Rattle.page_surface.specs.Words.{Step, Steps, none, more, HasNoPair, reduced}
 use Rattle.drawing.specs.Tight.{tight_drawing, IsTight}
 use Rattle.drawing.specs.Turns.{IsTurn, without_turn, TurnsOut, no_more, one_more, Loosened}
-use Rattle.drawing.proofs.tight.Maps.{map_same}
+use Rattle.obd_base.proofs.lists.Maps.{map_same}
 use Rattle.drawing.proofs.tight.StrandWays.{letters}
 use Rattle.drawing.proofs.tight.TightPlaces.{is_tight_drawing}
 use Rattle.drawing.proofs.tight.TurnFound.{turn_found}

@@ -12,7 +12,7 @@ use Rattle.drawing.specs.Turns.{IsTurn, lowered}
 use Rattle.drawing.proofs.SweepTest.{chord}
 use Rattle.drawing.proofs.Diagram.{at_most_one_end}
 use Rattle.drawing.proofs.Placed.{ends_at}
-use Rattle.drawing.proofs.tight.Maps.{map_flat, flat_same, range_split}
+use Rattle.obd_base.proofs.lists.Maps.{map_flat, flat_same, range_split}
 use Rattle.drawing.proofs.tight.TurnCounts.{row, row_there, strand_new, places, places_meet, far_count}
 use Rattle.drawing.proofs.tight.TurnMap.{thin, up, up_rises, up_end, Kept, kept}
 use Rattle.drawing.proofs.tight.Uncross.{moved, moved_uncrossed, merged_uncrossed, others_avoid}

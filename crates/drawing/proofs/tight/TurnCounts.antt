@@ -14,7 +14,7 @@ use Rattle.page_surface.specs.Drawing.{Drawing, points_on, all_exits, strand_exi
 use Rattle.page_surface.specs.Polygon.{partner, sides, arc_count}
 use Rattle.drawing.specs.Turns.{IsTurn, without_turn, lowered, turn_place, far_place}
 use Rattle.drawing.proofs.Ends.{place_in, side_in, same_count}
-use Rattle.drawing.proofs.tight.Maps.{sum_one}
+use Rattle.obd_base.proofs.lists.Maps.{sum_one}
 use Rattle.drawing.proofs.Lists.{mem_row}
 
 -- a sum with two neighbours apart

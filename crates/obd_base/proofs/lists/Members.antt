@@ -1,5 +1,6 @@
 -- Members of lists, and lists that hold no member twice.
 use Rattle.std.proofs.Common.{◌≡◌, ◌+◌, ◌≤◌, suc, subst, Bool, true, false, cond, List, [], ◌∷◌, ◌++◌, map, length, filter, refl, sym, ◌∙◌, ap, arith, ◌⊎◌, inl, inr, ◌≢◌, length-append}
+use Rattle.std.specs.List.{flat_map}
 use Rattle.std.proofs.lemmas.Bool.{false≢true}
 use Rattle.obd_base.specs.Lists.{Mem, Once}
 
@@ -82,6 +83,26 @@ module _ {A B : Type 0} where
   mem_map f z [] m = absurd m
   mem_map f z (x ∷ xs) (inl e) = (x, inl refl, e)
   mem_map f z (x ∷ xs) (inr m) = let (y, k, e) = mem_map f z xs m in (y, inr k, e)
+
+  -- a map takes members to members
+  pub mem_to_map : (f : A → B) (x : A) (xs : List A) → Mem x xs → Mem (f x) (map f xs)
+  mem_to_map f x [] m = absurd m
+  mem_to_map f x (y ∷ xs) (inl e) = inl (ap f e)
+  mem_to_map f x (y ∷ xs) (inr m) = inr (mem_to_map f x xs m)
+
+  -- a member of one of some lists is a member of all of them joined
+  pub mem_flat : (g : A → List B) (xs : List A) (x : A) (y : B) → Mem x xs → Mem y (g x) → Mem y (flat_map g xs)
+  mem_flat g [] x y m n = absurd m
+  mem_flat g (z ∷ xs) x y (inl e) n = mem_left y (g z) (flat_map g xs) (subst (λ w. Mem y (g w)) e n)
+  mem_flat g (z ∷ xs) x y (inr m) n = mem_right y (g z) (flat_map g xs) (mem_flat g xs x y m n)
+
+  -- and comes from one
+  pub flat_mem : (g : A → List B) (xs : List A) (y : B) → Mem y (flat_map g xs) → (x : A) × Mem x xs × Mem y (g x)
+  flat_mem g [] y m = absurd m
+  flat_mem g (z ∷ xs) y m = elim (mem_append y (g z) (flat_map g xs) m) [
+    | inl k ↦ (z, inl refl, k)
+    | inr k ↦ let (x, i, n) = flat_mem g xs y k in (x, inr i, n)
+  ]
 
   -- a map that tells members apart repeats no member
   pub once_map : (f : A → B) → ((x y : A) → f x ≡ f y → x ≡ y) → (xs : List A) → Once xs → Once (map f xs)
