@@ -64,6 +64,7 @@ fn a_source_that_fails_at_any_read_leaves_nothing_written(rt: HostRuntime) -> Re
     for (failing, status, text) in [
         (1, Status::ReadFault, ""),
         (2, Status::ReadFault, ""),
+        (3, Status::ReadFault, ""),
         (4, Status::ReadFault, ""),
         (5, Status::ReadFault, ""),
         (6, Status::Done, ANNULUS_TEXT),
