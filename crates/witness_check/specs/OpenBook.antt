@@ -1,6 +1,7 @@
 -- An open book, and the polygon, the curves and the words that it gives.
 use Rattle.std.specs.Prelude.{◌≡◌, ℕ, List, [], ◌∷◌, map, slice_index_or, Option, None, Some, Result}
 use Rattle.std.specs.List.{position_or_len}
+use Rattle.std.specs.Option.{option_and_then}
 use Rattle.std.specs.Str.{bytes_eq}
 use Rattle.obd_base.specs.Lists.{below}
 use Rattle.obd_base.specs.declared.points.Exit.{Exit}
@@ -34,15 +35,10 @@ joined_surface book = record { polygon = page_polygon book.page; curves = map (�
 abbrev pub slid_along : Surface → ℕ → Option Surface
 slid_along s side = None
 
--- what follows on a surface, where there is one
-abbrev pub going_on : (Surface → Option Surface) → Option Surface → Option Surface
-going_on next None = None
-going_on next (Some s) = next s
-
 -- what some slides leave, one after another
 abbrev pub slid : Surface → List ℕ → Option Surface
 slid s [] = Some s
-slid s (side ∷ rest) = going_on (λ t. slid t rest) (slid_along s side)
+slid s (side ∷ rest) = option_and_then (λ t. slid t rest) (slid_along s side)
 
 -- the book's slides are accepted, and leave this surface
 abbrev pub IsSurface : OpenBook → Surface → Type 0
