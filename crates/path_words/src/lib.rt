@@ -3,7 +3,8 @@
 //! A word is the list of the sides by which a path leaves the polygon, one after another. Two successive
 //! letters cancel where the second is the partner of the first; a word from which nothing more can be
 //! cancelled is reduced, and each word has exactly one reduced form. A positive twist turns to the right.
-//! The form of the action is this project's own.
+//! The form of the action is this project's own. A power is so many single twists one after another, on the words
+//! of all strands at once, which are kept to 4,000 letters together.
 #![tactic(auto)]
 
 mod action;
