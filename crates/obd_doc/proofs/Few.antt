@@ -11,8 +11,8 @@ use Rattle.obd_doc.specs.Kinds.{cross, name, named_path, named_twist, slide_side
 use Rattle.obd_doc.specs.Reading.{Kind, array_of}
 use Rattle.obd_doc.specs.Sizes.{ListsFewer, items_size, size}
 use Rattle.obd_doc.specs.Values.{element, elements, listed, value_of}
-use Rattle.obd_doc.specs.declared.entries.NamedPath.{NamedPath}
-use Rattle.obd_doc.specs.declared.entries.NamedTwist.{NamedTwist}
+use Rattle.curve_paths.specs.declared.named.NamedPath.{NamedPath}
+use Rattle.curve_paths.specs.declared.named.NamedTwist.{NamedTwist}
 use Rattle.obd_doc.specs.declared.fields.Fields.{Fields}
 use Rattle.obd_doc.proofs.Parts.{element_fewer, elements_fewer, get_fewer, some}
 use Rattle.obd_doc.proofs.Sizes.{read_fits}

@@ -1,7 +1,7 @@
 use Rattle.std.proofs.Common.{ap, arith, length, map, string_bytes}
 use Rattle.std.proofs.lemmas.List.{length-map}
 use Rattle.obd_doc.specs.Document.{book_of, book_rules}
-use Rattle.obd_doc.specs.declared.entries.NamedPath.{NamedPath}
+use Rattle.curve_paths.specs.declared.named.NamedPath.{NamedPath}
 use Rattle.obd_doc.proofs.BookRules.{book_made, curves_refused, twists_refused}
 use Rattle.obd_doc.proofs.Rules.{given_on}
 use Rattle.obd_doc.proofs.document.book.Goals as goal
