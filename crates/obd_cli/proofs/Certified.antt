@@ -1,12 +1,10 @@
--- A certificate whose lines are made from the surface, the drawings and the complex of a book belongs to the book.
+-- A certificate whose lines are made from the surface, the drawings and the complex of a book is the book's.
 use Rattle.std.proofs.Common.{◌≡◌, ℕ, ℤ, ◌+◌, List, [], map, refl, sym, ◌∙◌, ap, Some, arith}
 use Rattle.std.specs.Prelude.{pos, ◌-ℤ◌, ◌*◌}
 use Rattle.curve_paths.specs.declared.named.NamedTwist.{NamedTwist}
-use Rattle.witness_check.specs.Belonging.{BelongsTo}
 use Rattle.witness_check.proofs.Laws.{contact_last, last_column}
 use Rattle.obd_doc.specs.declared.book.Book.{Book}
-use Rattle.obd_cli.specs.Opened.{open_book}
-use Rattle.obd_cli.specs.Steps.{AreDrawings, AreLastLines, ArePageLines, IsComplexOf, IsSurfaceOf, shown}
+use Rattle.obd_cli.specs.Steps.{AreDrawings, AreLastLines, ArePageLines, IsCertificateOf, IsComplexOf, IsSurfaceOf, shown}
 use Rattle.obd_cli.specs.declared.certify.LastLines.{LastLines}
 use Rattle.obd_cli.specs.declared.certify.PageLines.{PageLines}
 use Rattle.obd_cli.specs.declared.complex.Complex.{Complex}
@@ -17,7 +15,7 @@ use Rattle.obd_cli.specs.declared.surface.Surface.{Surface}
 pub all_belong : (book : Book) (s : Surface) (m : Moved) (x : Complex) (page : PageLines) (lines : LastLines) → IsSurfaceOf book s → book.slides ≡ [] → book.twists ≡ [] → AreDrawings book s m → IsComplexOf m.last x
     → ArePageLines book s page → AreLastLines m.last lines
     → (slides : List ℕ) (twists : List NamedTwist) (contact : ℕ) (homology : ℤ) → slides ≡ [] → twists ≡ [] → contact + 1 ≡ x.generators → homology ≡ pos x.generators -ℤ pos (2 * x.outcome.rank)
-    → BelongsTo (open_book book) (record {
+    → IsCertificateOf book (record {
       version = 1;
       polygons = page.polygons;
       curves = page.curves;
@@ -39,28 +37,31 @@ pub all_belong : (book : Book) (s : Surface) (m : Moved) (x : Complex) (page : P
 all_belong book s m x page lines surface no_slide no_twist drawings complex told shown_last slides twists contact homology sl tw last ho =
     let at = last ∙ complex.count in
     record {
-      version = refl;
-      polygons = told.polygons;
-      curves = told.curves;
-      slides = sl ∙ sym no_slide;
-      twists = tw ∙ sym (ap (map _) no_twist);
-      surface = shown s;
-      surface_is = surface.surface;
-      seams = told.seams;
-      basis = told.basis;
-      first = drawings.first;
-      first_is = drawings.first_is;
-      strands = drawings.moved.strands;
-      few_fingers = drawings.moved.few;
-      last = m.last;
-      last_is = drawings.moved.leads;
-      finals = shown_last.finals;
-      generators_are = complex.count;
-      few_generators = omega (arith, complex.most);
-      points = shown_last.points;
-      contact = contact_last m.last contact at ∙ ap Some (sym shown_last.points);
-      contact_last = last;
-      contact_column = last_column m.last drawings.moved.leads.embedded contact at;
-      concludes = complex.concludes;
-      homology = ho;
+      belongs = record {
+        version = refl;
+        polygons = told.polygons;
+        curves = told.curves;
+        slides = sl ∙ sym no_slide;
+        twists = tw ∙ sym (ap (map _) no_twist);
+        surface = shown s;
+        surface_is = surface.surface;
+        seams = told.seams;
+        basis = told.basis;
+        first = drawings.first;
+        first_is = drawings.first_is;
+        strands = drawings.moved.strands;
+        few_fingers = drawings.moved.few;
+        last = m.last;
+        last_is = drawings.moved.leads;
+        finals = shown_last.finals;
+        generators_are = complex.count;
+        few_generators = omega (arith, complex.most);
+        points = shown_last.points;
+        contact = contact_last m.last contact at ∙ ap Some (sym shown_last.points);
+        contact_last = last;
+        contact_column = last_column m.last drawings.moved.leads.embedded contact at;
+        concludes = complex.concludes;
+        homology = ho;
+      };
+      sparing = drawings.moved.sparing;
     }

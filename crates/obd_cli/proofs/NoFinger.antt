@@ -16,5 +16,6 @@ no_finger d seen strands fingers is same ok told none =
       strands = told ∙ ap (λ (e : Drawing). e.strands) same;
       few = omega (arith, ap length none);
       leads = rw none (subst (λ (e : Drawing). LeadTo e [] e) (sym is) (identity_leads d.polygon valid.polygon));
+      sparing = λ _. none;
       same = refl;
     }

@@ -8,8 +8,7 @@ use Rattle.curve_paths.specs.declared.twist.TooLong.{TooLong}
 use Rattle.obd_doc.specs.Document.{book_read, refusal_of}
 use Rattle.obd_doc.specs.declared.book.Book.{Book}
 use Rattle.obd_doc.specs.declared.refusal.DocRefusal.{DocRefusal}
-use Rattle.witness_check.specs.Belonging.{BelongsTo}
-use Rattle.obd_cli.specs.Opened.{open_book}
+use Rattle.obd_cli.specs.Steps.{IsCertificateOf}
 use Rattle.obd_cli.specs.Refused.{doc_line, refused_line}
 use Rattle.witness_check.specs.Text.{certificate_text}
 use Rattle.obd_cli.specs.Words.{book_words, long_line, words_text}
@@ -60,7 +59,7 @@ not_built command book =
 pub record Certifies (book : Book) (answer : Answer) : Type 0 where
   pub done : answer.status ≡ status.Done
   pub certificate : Certificate
-  pub belongs : BelongsTo (open_book book) certificate
+  pub belongs : IsCertificateOf book certificate
   pub text : answer.text ≡ certificate_text certificate
 
 -- the answer of `page`: the words, or the line of those that are too long
@@ -128,7 +127,7 @@ pub record Decided (left now_left written now_written : Option (List ℕ)) : Typ
   pub book : Book
   pub read : book_read bytes ≡ Some book
   pub certificate : Certificate
-  pub belongs : BelongsTo (open_book book) certificate
+  pub belongs : IsCertificateOf book certificate
   pub wrote : Appends written now_written (certificate_text certificate)
 
 -- the source was read to its end, and the words of the book of its bytes were written

@@ -1,5 +1,5 @@
 -- What each step of a run makes of a book.
-use Rattle.std.specs.Prelude.{◌≡◌, ℕ, ◌≤◌, List, map, length, All, IfSome}
+use Rattle.std.specs.Prelude.{◌≡◌, ℕ, ◌≤◌, List, [], map, length, All, IfSome}
 use Rattle.obd_base.specs.declared.points.Column.{Column}
 use Rattle.page_surface.specs.Drawing.{Drawing}
 use Rattle.page_surface.specs.Joining.{joined}
@@ -8,10 +8,12 @@ use Rattle.arc_basis.specs.Basis.{joined_polygon}
 use Rattle.curve_paths.specs.Curves.{IsCurve}
 use Rattle.curve_paths.specs.Twists.{exits_of}
 use Rattle.drawing.specs.Points.{contact_generator, generators}
+use Rattle.region_table.specs.Nice.{IsNice}
 use Rattle.hkm_diagram.specs.Domains.{columns}
 use Rattle.mod2_rank.specs.Linear.{IsOutcomeOf}
-use Rattle.witness_check.specs.Belonging.{IsFirstDrawing, LeadTo}
+use Rattle.witness_check.specs.Belonging.{BelongsTo, IsFirstDrawing, LeadTo}
 use Rattle.witness_check.specs.OpenBook.{IsSurface, Surface as Shown, arcs, joined_surface, seam_names}
+use Rattle.witness_check.specs.declared.certificate.Certificate.{Certificate}
 use Rattle.obd_doc.specs.declared.book.Book.{Book}
 use Rattle.obd_cli.specs.Opened.{open_book, paths_of}
 use Rattle.obd_cli.specs.declared.certify.LastLines.{LastLines}
@@ -32,11 +34,12 @@ pub record IsSurfaceOf (book : Book) (s : Surface) : Type 0 where
   pub valid : IsPolygon (shown s).polygon
   pub curves : All (λ curve. IfSome curve (IsCurve (shown s).polygon)) s.curves
 
--- the strands of the first drawing, and legal fingers that lead from it to a nice one; for now it is nice as it stands
+-- the strands of the first drawing, and legal fingers that lead from it to a nice one, none where it is nice; for now it is
 pub record IsMoved (first : Drawing) (m : Moved) : Type 0 where
   pub strands : m.strands ≡ first.strands
   pub few : length m.fingers ≤ 20000
   pub leads : LeadTo first m.fingers m.last
+  pub sparing : IsNice first → m.fingers ≡ []
   pub same : m.last ≡ first
 
 -- the strands of the book's first drawing, and the fingers that lead from it to the last one
@@ -68,3 +71,8 @@ pub record ArePageLines (book : Book) (s : Surface) (lines : PageLines) : Type 0
 pub record AreLastLines (d : Drawing) (lines : LastLines) : Type 0 where
   pub finals : lines.finals ≡ d.strands
   pub points : lines.points ≡ contact_generator d
+
+-- the certificate belongs to the book, and takes no finger where the first drawing is nice
+pub record IsCertificateOf (book : Book) (c : Certificate) : Type 0 where
+  pub belongs : BelongsTo (open_book book) c
+  pub sparing : IsNice belongs.first → c.fingers ≡ []

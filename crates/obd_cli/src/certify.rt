@@ -4,9 +4,8 @@ ghost use Rattle.obd_base.specs.Lists.{below};
 ghost use Rattle.page_surface.specs.Polygon.{arc_count};
 ghost use Rattle.drawing.specs.Points.{contact_generator, crossings_of};
 ghost use Rattle.obd_doc.specs.Document.{IsBook};
-ghost use Rattle.witness_check.specs.Belonging.{BelongsTo};
-ghost use Rattle.obd_cli.specs.Opened.{open_book, paths_of};
-ghost use Rattle.obd_cli.specs.Steps.{AreDrawings, AreLastLines, ArePageLines, IsComplexOf, IsSurfaceOf};
+ghost use Rattle.obd_cli.specs.Opened.{paths_of};
+ghost use Rattle.obd_cli.specs.Steps.{AreDrawings, AreLastLines, ArePageLines, IsCertificateOf, IsComplexOf, IsSurfaceOf};
 
 use crate::complex::{Complex, complex_of};
 use crate::drawn::drawn;
@@ -106,7 +105,7 @@ fn certificate_of(
     requires twists { book.now.twists ≡ [] }
     requires drawings { AreDrawings book.now surface.now moved }
     requires complex { IsComplexOf moved.last complex }
-    ensures { IfOk result (BelongsTo (open_book book.now)) }
+    ensures { IfOk result (IsCertificateOf book.now) }
 {
     let page = page_lines(alloc, book, surface)?;
     let last = last_lines(alloc, &moved.last)?;
@@ -148,7 +147,7 @@ pub(crate) fn certify(alloc: Global, book: &Book) -> Result<Certificate, NoMemor
     requires one { length book.now.page ≡ 1 }
     requires slides { book.now.slides ≡ [] }
     requires twists { book.now.twists ≡ [] }
-    ensures { IfOk result (BelongsTo (open_book book.now)) }
+    ensures { IfOk result (IsCertificateOf book.now) }
 {
     let surface = surface_of(alloc, book)?;
     let diagram = drawn(alloc, book, &surface)?;
