@@ -7,7 +7,7 @@ pub mod Examples
 mod Filled
 pub mod Generators
 mod Hits
-mod IdentityEmbedded
+pub mod IdentityEmbedded
 pub mod IdentityLaws
 mod IdentityTables
 mod KeptTables
@@ -15,16 +15,17 @@ mod LaidThin
 pub mod Laws
 mod LayoutTables
 pub mod Lists
-mod Mates
+pub mod Mates
+pub mod Moved
 mod Orbits
 mod PieceCount
 mod PieceTrees
-mod Placed
+pub mod Placed
 mod PlaceTables
 mod RoundPiece
 pub mod SamePiece
 mod SpanTests
-mod Spots
+pub mod Spots
 mod StackSweep
 mod StrandTables
 mod SweepTables
