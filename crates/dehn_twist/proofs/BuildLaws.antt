@@ -20,6 +20,7 @@ use Rattle.drawing.specs.Reading.{Says}
 use Rattle.drawing.specs.declared.refusal.DrawRefusal.{DrawRefusal}
 use Rattle.drawing.specs.declared.refusal.DrawRefusal.TheVariants.{Crosses, NoMemory, NotCut, PlaceWrong}
 use Rattle.dehn_twist.specs.Surgery.{goes_up, inner_end, line_index, meeting_count, meeting_number, meetings_upto, merged_chords, merged_curve, merged_cut, surgery}
+use Rattle.dehn_twist.specs.Tables.{round}
 use Rattle.dehn_twist.proofs.CopyPlaces.{around_high, around_low}
 use Rattle.dehn_twist.proofs.CopySums.{all_sum}
 use Rattle.dehn_twist.proofs.MeetingSums.{crossings, parted, place_met_is}
@@ -53,10 +54,6 @@ turned_below n a l =
     let e : n ≡ a + (n - a) = omega (arith, l) in
     let z : 0 + a ≡ a = omega arith in
     ap (λ m. turned a (range_with_len 0 m)) e ∙ (ap₂ (λ x y. x ++ y) (drop_range 0 a (n - a) ∙ ap (λ k. range_with_len k (n - a)) z) (take_range 0 a (n - a)))
-
--- the number so many exits after an exit, round
-abbrev pub round : ℕ → ℕ → ℕ → ℕ
-round n a i = cond (ltb (a + i) n) (a + i) (a + i - n)
 
 -- all exits from one on, by their numbers
 pub turned_rounds : (n a : ℕ) → a ≤ n → turned a (below n) ≡ map (round n a) (below n)

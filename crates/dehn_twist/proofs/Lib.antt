@@ -3,6 +3,7 @@ mod BetweenEnds
 mod Blocks
 pub mod BuildLaws
 mod ChordRuns
+mod ChordTables
 mod Circle
 mod CopyPlaces
 mod CopySums
@@ -12,6 +13,7 @@ mod Fronts
 mod LabelCounts
 mod Labelled
 pub mod Laws
+mod OrderTables
 mod LineLabels
 mod LineOrder
 mod LoopWords

@@ -4,7 +4,7 @@ mod CutAlways
 mod Diagram
 mod Ends
 pub mod Examples
-mod Filled
+pub mod Filled
 pub mod Generators
 mod Hits
 pub mod IdentityEmbedded
@@ -27,14 +27,14 @@ pub mod SamePiece
 mod SpanTests
 pub mod Spots
 mod StackSweep
-mod StrandTables
-mod SweepTables
+pub mod StrandTables
+pub mod SweepTables
 mod SweepTest
 pub mod Tests
 mod ThinKept
 pub mod Thinned
 mod ThinTables
-mod tight
+pub mod tight
 pub mod TightLaws
 pub mod TreeExamples
 pub mod TreeLaws
