@@ -4,10 +4,10 @@ mod CutAlways
 mod Diagram
 mod Ends
 pub mod Examples
-mod Filled
+pub mod Filled
 pub mod Generators
 mod Hits
-mod IdentityEmbedded
+pub mod IdentityEmbedded
 pub mod IdentityLaws
 mod IdentityTables
 mod KeptTables
@@ -15,25 +15,26 @@ mod LaidThin
 pub mod Laws
 mod LayoutTables
 pub mod Lists
-mod Mates
+pub mod Mates
+pub mod Moved
 mod Orbits
 mod PieceCount
 mod PieceTrees
-mod Placed
+pub mod Placed
 mod PlaceTables
 mod RoundPiece
 pub mod SamePiece
 mod SpanTests
-mod Spots
+pub mod Spots
 mod StackSweep
-mod StrandTables
-mod SweepTables
+pub mod StrandTables
+pub mod SweepTables
 mod SweepTest
 pub mod Tests
 mod ThinKept
 pub mod Thinned
 mod ThinTables
-mod tight
+pub mod tight
 pub mod TightLaws
 pub mod TreeExamples
 pub mod TreeLaws

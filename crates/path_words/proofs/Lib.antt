@@ -13,8 +13,8 @@ pub mod Numbered
 pub mod Passed
 pub mod Places
 pub mod Planar
-mod PushWords
-mod Readings
+pub mod PushWords
+pub mod Readings
 mod Reducing
 pub mod Reduction
 pub mod SideLetters

@@ -15,7 +15,8 @@ use Rattle.drawing.proofs.Placed.{ends_at}
 use Rattle.obd_base.proofs.lists.Maps.{map_flat, flat_same, range_split}
 use Rattle.drawing.proofs.tight.TurnCounts.{row, row_there, strand_new, places, places_meet, far_count}
 use Rattle.drawing.proofs.tight.TurnMap.{thin, up, up_rises, up_end, Kept, kept}
-use Rattle.drawing.proofs.tight.Uncross.{moved, moved_uncrossed, merged_uncrossed, others_avoid}
+use Rattle.drawing.proofs.Moved.{moved, moved_uncrossed}
+use Rattle.drawing.proofs.tight.Uncross.{merged_uncrossed, others_avoid}
 
 -- lists joined in another grouping
 four : {X : Type 0} (l pre m post r : List X) → l ++ ((pre ++ (m ++ post)) ++ r) ≡ (l ++ pre) ++ (m ++ (post ++ r))

@@ -1,7 +1,7 @@
--- Chords that don't cross: where two that end at neighbouring numbers become one, and where all numbers are moved in order.
-use Rattle.std.proofs.Common.{◌≡◌, ℕ, suc, ◌+◌, ◌<◌, ◌≤◌, Bool, true, false, ltb, not, ◌&&◌, List, [], ◌∷◌, ◌++◌, map, refl, sym, ◌∙◌, ap, subst, arith, ◌⊎◌, inl, inr, ◌≢◌}
+-- Chords that don't cross, where two that end at neighbouring numbers become one.
+use Rattle.std.proofs.Common.{◌≡◌, ℕ, suc, ◌+◌, ◌≤◌, Bool, true, false, ltb, not, ◌&&◌, List, [], ◌∷◌, ◌++◌, refl, sym, ◌∙◌, ap, subst, arith, ◌⊎◌, inl, inr, ◌≢◌}
 use Rattle.std.specs.List.{list_all}
-use Rattle.std.proofs.lemmas.Bool.{cases_lt, cases_eq, lt-ltb, le-ltb, and_parts, and_from, not-true}
+use Rattle.std.proofs.lemmas.Bool.{cases_lt, lt-ltb, le-ltb, and_parts, and_from, not-true}
 use Rattle.std.proofs.lemmas.List.Sums.{sum_by-cons}
 use Rattle.obd_base.proofs.lists.Below.{bit}
 use Rattle.obd_base.proofs.lists.Sums.{member_adds}
@@ -155,32 +155,3 @@ module _ (x u v y a b : ℕ) (near : (u ≡ suc v) ⊎ (v ≡ suc u)) where
       let a = end_here e u (omega (arith, ends_parts u pre post, ends_to first, once u, member_adds (λ c. ends_of c u) e (pre ++ post) m)) in
       let b = end_here e v (omega (arith, ends_parts v pre post, ends_from second, once v, member_adds (λ c. ends_of c v) e (pre ++ post) m)) in
       (a.0, a.1, b.0, b.1)
-
--- a chord moved
-abbrev pub moved : (ℕ → ℕ) → Chord → Chord
-moved f c = record { from = f c.from; to = f c.to }
-
-module _ (f : ℕ → ℕ) (rises : (x y : ℕ) → x < y → f x < f y) where
-  -- numbers stay in order
-  pub moved_ltb : (x y : ℕ) → ltb (f x) (f y) ≡ ltb x y
-  moved_ltb x y = elim (cases_lt x y) [
-    | inl l ↦ rw (lt-ltb x y l, lt-ltb (f x) (f y) (rises x y l)) refl
-    | inr l ↦ elim (cases_eq x y) [
-      | inl q ↦ (let z : f x ≡ f y = ap f q in rw (le-ltb x y l, le-ltb (f x) (f y) (omega arith)) refl)
-      | inr n ↦ (let g = rises y x (omega arith) in rw (le-ltb x y l, le-ltb (f x) (f y) (omega arith)) refl)
-    ]
-  ]
-
-  -- chords cross as they did
-  moved_crosses : (c e : Chord) → crosses (moved f c) (moved f e) ≡ crosses c e
-  moved_crosses c e = rw (moved_ltb c.from e.from, moved_ltb c.to e.from, moved_ltb c.from e.to, moved_ltb c.to e.to) refl
-
-  -- a chord and those after it
-  moved_all : (c : Chord) (cs : List Chord) → list_all (λ e. not (crosses (moved f c) e)) (map (moved f) cs) ≡ list_all (λ e. not (crosses c e)) cs
-  moved_all c [] = refl
-  moved_all c (e ∷ cs) = rw (moved_crosses c e, moved_all c cs) refl
-
-  -- numbers moved in order keep what crosses
-  pub moved_uncrossed : (cs : List Chord) → no_two_cross (map (moved f) cs) ≡ no_two_cross cs
-  moved_uncrossed [] = refl
-  moved_uncrossed (c ∷ cs) = rw (moved_all c cs, moved_uncrossed cs) refl

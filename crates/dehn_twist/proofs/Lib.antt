@@ -1,0 +1,45 @@
+mod Arranged
+mod BetweenEnds
+mod Blocks
+pub mod BuildLaws
+mod ChordRuns
+mod ChordTables
+mod Circle
+mod CopyPlaces
+mod CopySums
+mod CurveRing
+pub mod Examples
+mod Fronts
+mod LabelCounts
+mod Labelled
+pub mod Laws
+mod OrderTables
+mod LineLabels
+mod LineOrder
+mod LoopWords
+mod Matching
+mod MeetingLabels
+mod MeetingParts
+mod MeetingSums
+mod Merged
+mod MergedCircle
+mod MovedChords
+mod NewCircle
+mod NewEmbedded
+mod NewPlaced
+mod NewPlaces
+mod NewPoints
+mod NoCrossing
+mod NotCrossing
+mod Opens
+mod PartLabels
+mod PartNames
+mod Passing
+mod PointWords
+mod RisingLists
+mod RoundNumbers
+mod Rows
+mod Runs
+mod SurgeryWords
+mod TwoLists
+mod TwoSorts

@@ -1,0 +1,42 @@
+-- The tables from which the surgery is built.
+use Rattle.std.specs.Prelude.{◌≡◌, ℕ, suc, ◌+◌, ◌-◌, ◌≤◌, cond, nat_lt, List, map, length}
+use Rattle.obd_base.specs.Lists.{below}
+use Rattle.obd_base.specs.declared.points.Exit.{Exit}
+use Rattle.page_surface.specs.Drawing.{Chord, Drawing, IsEmbedded, all_exits, end_of, points_on, strand_exits}
+use Rattle.page_surface.specs.Polygon.{first_side, second_side, sides}
+use Rattle.curve_paths.specs.Curves.{IsCurve, curve_points}
+use Rattle.drawing.specs.Round.{other_end}
+use Rattle.dehn_twist.specs.Surgery.{merged_chords, merged_cut, merged_start}
+
+-- a drawing with a curve on its polygon
+pub record Pair : Type 0 where
+  pub drawing : Drawing
+  pub curve : List Exit
+
+-- a drawing and a curve that a twist takes
+pub record AreTaken (d : Drawing) (c : List Exit) : Type 0 where
+  pub embedded : IsEmbedded d
+  pub curve : IsCurve d.polygon c
+  pub few_sides : sides d.polygon ≤ 16
+  pub few_points : length (all_exits d) ≤ 4000
+  pub some_exits : 1 ≤ length c
+  pub few_exits : length c ≤ 32
+
+-- these with how many points of each kind the sides have, and where the sides begin in the merged order
+pub record IsMerged (d : Drawing) (c : List Exit) (points counts starts : List ℕ) : Type 0 where
+  pub taken : AreTaken d c
+  pub points_are : points ≡ map (points_on d) (below (sides d.polygon))
+  pub counts_are : counts ≡ map (curve_points d.polygon c) (below (sides d.polygon))
+  pub starts_are : starts ≡ map (merged_start d c) (below (suc (sides d.polygon)))
+
+-- the merged chords of one strand
+abbrev pub merged_strand : Drawing → List Exit → ℕ → List Chord
+merged_strand d c i = merged_cut d c (end_of d (second_side d.polygon i)) (strand_exits d i) (end_of d (first_side d.polygon i))
+
+-- the other ends of the strands' chords, number by number
+abbrev pub merged_mates : Drawing → List Exit → List ℕ
+merged_mates d c = map (other_end (merged_chords d c)) (below (merged_start d c (sides d.polygon)))
+
+-- the number so many exits after an exit, round
+abbrev pub round : ℕ → ℕ → ℕ → ℕ
+round n a i = cond (nat_lt (a + i) n) (a + i) (a + i - n)

@@ -1,0 +1,11 @@
+//! Dehn twists carried out on drawings.
+//!
+//! A twist inserts a parallel copy of its curve into a strand at each point where the strand meets the curve, and the
+//! chords are rejoined; what comes is made tight. It is the tight drawing whose words are the reduced images of the
+//! words before. A positive twist turns to the right. The surgery is this project's own form of a known one. For now
+//! this crate holds its definitions and laws, and the first tables from which the surgery is to be built.
+#![tactic(auto)]
+
+mod chords;
+mod counts;
+mod order;
