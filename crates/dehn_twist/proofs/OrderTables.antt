@@ -12,7 +12,7 @@ use Rattle.page_surface.specs.Polygon.{Polygon, arc_count, sides}
 use Rattle.curve_paths.specs.Curves.{IsCurve, curve_points}
 use Rattle.path_words.proofs.Readings.{exits_on_sides}
 use Rattle.drawing.proofs.Filled.{counted_within}
-use Rattle.drawing.proofs.tight.Maps.{map_same}
+use Rattle.obd_base.proofs.lists.Maps.{map_same}
 use Rattle.dehn_twist.specs.Surgery.{merged_start}
 use Rattle.dehn_twist.specs.Tables.{AreTaken, IsMerged, Pair}
 
