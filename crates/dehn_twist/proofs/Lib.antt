@@ -36,6 +36,7 @@ mod PartLabels
 mod PartNames
 mod Passing
 mod PointWords
+mod RingTables
 mod RisingLists
 mod RoundNumbers
 mod Rows

@@ -6,7 +6,8 @@ use Rattle.page_surface.specs.Drawing.{Chord, Drawing, IsEmbedded, all_exits, en
 use Rattle.page_surface.specs.Polygon.{first_side, second_side, sides}
 use Rattle.curve_paths.specs.Curves.{IsCurve, curve_points}
 use Rattle.drawing.specs.Round.{other_end}
-use Rattle.dehn_twist.specs.Surgery.{merged_chords, merged_cut, merged_start}
+use Rattle.dehn_twist.specs.Surgery.{chord_at, curve_mate, curve_number, is_chord_end, merged_chords, merged_cut, merged_start}
+use Rattle.dehn_twist.specs.declared.ring.CurvePoint.{CurvePoint}
 
 -- a drawing with a curve on its polygon
 pub record Pair : Type 0 where
@@ -36,6 +37,10 @@ merged_strand d c i = merged_cut d c (end_of d (second_side d.polygon i)) (stran
 -- the other ends of the strands' chords, number by number
 abbrev pub merged_mates : Drawing → List Exit → List ℕ
 merged_mates d c = map (other_end (merged_chords d c)) (below (merged_start d c (sides d.polygon)))
+
+-- what is asked of a point of the curve: its number, the other end of its chord, which chord that is, and whether it ends there
+abbrev pub curve_point : Drawing → List Exit → Exit → CurvePoint
+curve_point d c q = record { number = curve_number d c q; mate = curve_number d c (curve_mate d.polygon c q); chord = chord_at d.polygon c q; ends = is_chord_end c q }
 
 -- the number so many exits after an exit, round
 abbrev pub round : ℕ → ℕ → ℕ → ℕ

@@ -9,3 +9,4 @@
 mod chords;
 mod counts;
 mod order;
+mod ring;
