@@ -21,6 +21,7 @@ mod Matching
 mod MeetingLabels
 mod MeetingParts
 mod MeetingSums
+mod MeetingTables
 mod Merged
 mod MergedCircle
 mod MovedChords

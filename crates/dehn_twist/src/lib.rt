@@ -8,5 +8,6 @@
 
 mod chords;
 mod counts;
+mod meetings;
 mod order;
 mod ring;
