@@ -7,6 +7,7 @@ mod ChordTables
 mod Circle
 mod CopyPlaces
 mod CopySums
+mod CopyTables
 mod CurveRing
 pub mod Examples
 mod Fronts

@@ -7,6 +7,7 @@
 #![tactic(auto)]
 
 mod chords;
+mod copies;
 mod counts;
 mod meetings;
 mod order;
