@@ -1,5 +1,5 @@
 // The copies of the curve: one full loop for each meeting.
-ghost use Rattle.std.specs.Prelude.{◌≡◌, ◌<◌, ◌≤◌, ◌^◌, ◌++◌, suc, true, length, map, OnOk};
+ghost use Rattle.std.specs.Prelude.{◌≡◌, ◌<◌, ◌≤◌, ◌^◌, ◌++◌, suc, true, false, length, map, OnOk};
 ghost use Rattle.obd_base.specs.Lists.{below};
 ghost use Rattle.dehn_twist.specs.Surgery.{line_index, loop_along, meeting_count, meetings_upto};
 ghost use Rattle.dehn_twist.specs.Tables.{round};
@@ -74,6 +74,31 @@ fn put_forward(
         let at = round(exits.len(), from, step);
         let index = line_index(sign, lines, uptos[at + 1], line);
         row.push(merged.copy_of(lines, exits[at], index))?;
+    }
+    Ok(())
+}
+
+// Appends a loop backward to an exit.
+fn put_backward(
+    merged: &Merged,
+    uptos: &[u32],
+    sign: Sign,
+    from: usize,
+    line: u32,
+    row: &mut Vec<Exit>,
+) -> Result<(), NoMemory>
+    requires uptos { uptos.now ≡ map (meetings_upto merged.now.drawing merged.now.curve) (below (suc (length merged.now.curve))) }
+    requires from { from < length merged.now.curve }
+    requires line { line < meeting_count merged.now.drawing merged.now.curve }
+    ensures { OnOk result (row.new.items ≡ row.old.items
+        ++ loop_along merged.now.drawing merged.now.curve sign false (meeting_count merged.now.drawing merged.now.curve) from line) }
+{
+    let exits = merged.curve();
+    let lines = uptos[exits.len()];
+    for step in 0..exits.len() {
+        let at = round(exits.len(), from, exits.len() - 1 - step);
+        let index = lines - 1 - line_index(sign, lines, uptos[at + 1], line);
+        row.push(merged.copy_of(lines, merged.curve_entry(exits[at]), index))?;
     }
     Ok(())
 }
