@@ -7,6 +7,7 @@ mod ChordTables
 mod Circle
 mod CopyPlaces
 mod CopySums
+mod CopyTables
 mod CurveRing
 pub mod Examples
 mod Fronts
@@ -21,6 +22,7 @@ mod Matching
 mod MeetingLabels
 mod MeetingParts
 mod MeetingSums
+mod MeetingTables
 mod Merged
 mod MergedCircle
 mod MovedChords
@@ -36,6 +38,7 @@ mod PartLabels
 mod PartNames
 mod Passing
 mod PointWords
+mod RingTables
 mod RisingLists
 mod RoundNumbers
 mod Rows

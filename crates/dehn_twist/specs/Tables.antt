@@ -1,12 +1,13 @@
 -- The tables from which the surgery is built.
-use Rattle.std.specs.Prelude.{◌≡◌, ℕ, suc, ◌+◌, ◌-◌, ◌≤◌, cond, nat_lt, List, map, length}
+use Rattle.std.specs.Prelude.{◌≡◌, ℕ, suc, ◌+◌, ◌-◌, ◌≤◌, Bool, cond, nat_lt, ◌&&◌, not, List, map, length, slice_index_or, count_by}
 use Rattle.obd_base.specs.Lists.{below}
 use Rattle.obd_base.specs.declared.points.Exit.{Exit}
-use Rattle.page_surface.specs.Drawing.{Chord, Drawing, IsEmbedded, all_exits, end_of, points_on, strand_exits}
+use Rattle.page_surface.specs.Drawing.{Chord, Drawing, IsEmbedded, all_exits, beyond, end_of, points_on, strand_exits}
 use Rattle.page_surface.specs.Polygon.{first_side, second_side, sides}
 use Rattle.curve_paths.specs.Curves.{IsCurve, curve_points}
 use Rattle.drawing.specs.Round.{other_end}
-use Rattle.dehn_twist.specs.Surgery.{merged_chords, merged_cut, merged_start}
+use Rattle.dehn_twist.specs.Surgery.{chord_at, curve_mate, curve_number, curve_ring, is_chord_end, meetings_upto, merged_chords, merged_curve, merged_cut, merged_start}
+use Rattle.dehn_twist.specs.declared.ring.CurvePoint.{CurvePoint}
 
 -- a drawing with a curve on its polygon
 pub record Pair : Type 0 where
@@ -36,6 +37,26 @@ merged_strand d c i = merged_cut d c (end_of d (second_side d.polygon i)) (stran
 -- the other ends of the strands' chords, number by number
 abbrev pub merged_mates : Drawing → List Exit → List ℕ
 merged_mates d c = map (other_end (merged_chords d c)) (below (merged_start d c (sides d.polygon)))
+
+-- a chord has a number, and not its mate, between its ends
+abbrev pub parts : List ℕ → Chord → ℕ → Bool
+parts mates a x = beyond a x && not (beyond a (slice_index_or mates x x))
+
+-- how many such numbers come before each number
+abbrev pub crossed_of : List ℕ → Chord → List ℕ
+crossed_of mates a = map (λ z. count_by (parts mates a) (below z)) (below (suc (length mates)))
+
+-- what is asked of a point of the curve: its number, the other end of its chord, which chord that is, and whether it ends there
+abbrev pub curve_point : Drawing → List Exit → Exit → CurvePoint
+curve_point d c q = record { number = curve_number d c q; mate = curve_number d c (curve_mate d.polygon c q); chord = chord_at d.polygon c q; ends = is_chord_end c q }
+
+-- the meetings as tables: the curve's chords, how many of its meetings come before each number, how many come before each
+-- chord's, and the points of the curve in order
+pub record AreMeetings (d : Drawing) (c : List Exit) (chords : List Chord) (crossed : List (List ℕ)) (uptos : List ℕ) (ring : List CurvePoint) : Type 0 where
+  pub chords_are : chords ≡ map (merged_curve d c) (below (length c))
+  pub crossed_are : crossed ≡ map (crossed_of (merged_mates d c)) chords
+  pub uptos_are : uptos ≡ map (meetings_upto d c) (below (suc (length c)))
+  pub ring_are : ring ≡ map (curve_point d c) (curve_ring d.polygon c)
 
 -- the number so many exits after an exit, round
 abbrev pub round : ℕ → ℕ → ℕ → ℕ

@@ -3,9 +3,13 @@
 //! A twist inserts a parallel copy of its curve into a strand at each point where the strand meets the curve, and the
 //! chords are rejoined; what comes is made tight. It is the tight drawing whose words are the reduced images of the
 //! words before. A positive twist turns to the right. The surgery is this project's own form of a known one. For now
-//! this crate holds its definitions and laws, and the first tables from which the surgery is to be built.
+//! this crate holds its definitions and laws, and what the surgery is to be built from: the merged order, the
+//! meetings, and the loops along the curve.
 #![tactic(auto)]
 
 mod chords;
+mod copies;
 mod counts;
+mod meetings;
 mod order;
+mod ring;
