@@ -16,7 +16,7 @@ use Rattle.drawing.proofs.Mates.{end_here, other_stays}
 use Rattle.drawing.proofs.Placed.{ends_at, ends_of}
 use Rattle.dehn_twist.specs.Surgery.{chord_end, chord_start, curve_number, curve_ring, meetings_upto, merged_chords, merged_curve, merged_start}
 use Rattle.dehn_twist.specs.declared.ring.CurvePoint.{CurvePoint}
-use Rattle.drawing.proofs.tight.Maps.{map_same}
+use Rattle.obd_base.proofs.lists.Maps.{map_same}
 use Rattle.dehn_twist.specs.Tables.{AreMeetings, AreTaken, crossed_of, curve_point, merged_mates, parts}
 use Rattle.dehn_twist.proofs.Merged.{one_end_each}
 use Rattle.dehn_twist.proofs.MeetingSums.{crossings, crossings_are, parted}
