@@ -1,6 +1,6 @@
 // Readings of seven bytes, in pieces, with failures, at the limit, and through a reader.
 use crate::ends::source_of;
-use obd_base::{ReadRefusal, Source, StdSource, read_all};
+use obd_base::{ReadRefusal, Source, StdSource, SureSource, read_all};
 use std::alloc::Global;
 use std::test::Fail;
 
@@ -43,5 +43,12 @@ fn whole_input_is_read_in_pieces(rt: HostRuntime) -> Result<(), Fail> {
 fn a_standard_source_gives_the_bytes_of_its_reader(rt: HostRuntime) -> Result<(), Fail> {
     let mut source = StdSource::new(BYTES);
     assert!(rt; ends_so(rt.alloc(), &mut source, 9, None));
+    Ok(())
+}
+
+#[test]
+fn a_sure_source_gives_its_bytes(rt: HostRuntime) -> Result<(), Fail> {
+    let mut source = SureSource::new(BYTES.to_vec(rt.alloc())?);
+    assert!(rt; ends_so(rt.alloc(), &mut source, 7, None));
     Ok(())
 }

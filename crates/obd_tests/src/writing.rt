@@ -1,6 +1,6 @@
 // Writings of eight bytes, in pieces, with failures, without room, and through a writer.
 use crate::ends::sink_of;
-use obd_base::{MemSink, StdSink, WriteFault, write_all_of};
+use obd_base::{MemSink, NullSink, StdSink, WriteFault, write_all_of};
 use std::io::{self, Write};
 use std::test::Fail;
 
@@ -67,5 +67,19 @@ fn a_standard_sink_flushes_its_writer_after_each_write(rt: HostRuntime) -> Resul
         counted: Vec::new(rt.alloc()),
     };
     assert!(rt; is_all_counted(&mut writer));
+    Ok(())
+}
+
+#[test]
+fn a_sink_that_tells_nothing_takes_the_bytes(rt: HostRuntime) -> Result<(), Fail> {
+    assert_eq!(rt; write_all_of(&mut NullSink::new(), BYTES), Ok(()));
+    Ok(())
+}
+
+#[test]
+fn a_standard_sink_hands_the_bytes_to_its_writer(rt: HostRuntime) -> Result<(), Fail> {
+    let mut written = Vec::new(rt.alloc());
+    let answer = write_all_of(&mut StdSink::new(&mut written), BYTES);
+    assert!(rt; answer == Ok(()) && written.as_slice() == BYTES);
     Ok(())
 }
