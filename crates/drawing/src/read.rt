@@ -59,4 +59,18 @@ impl Drawing {
         }
         Ok(Drawing::of(alloc, layout)?)
     }
+
+    /// The drawing with these exits, strand by strand, which are known to be those of an embedded drawing, and are taken
+    /// over. It is `read` without its tests. Linear in the exits and sides.
+    pub fn embedded(
+        alloc: Global,
+        polygon: &Polygon,
+        strands: Vec<Items<Exit>>,
+    ) -> Result<Drawing, NoMemory>
+        requires embedded { IsEmbedded (drawn polygon.now strands.items) }
+        requires few { length (all_exits (drawn polygon.now strands.items)) < 2 ^ 28 }
+        ensures { IfOk result (λ drawing. drawing ≡ drawn polygon.now strands.items) }
+    {
+        Drawing::of(alloc, Layout::of(alloc, polygon.copy()?, strands)?)
+    }
 }
