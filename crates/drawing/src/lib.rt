@@ -20,6 +20,7 @@ mod refusal;
 mod strands;
 mod thinning;
 mod turns;
+mod words;
 
 pub use drawing::Drawing;
 pub use finger::Finger;
