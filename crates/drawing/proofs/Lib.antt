@@ -5,6 +5,10 @@ mod Diagram
 mod Ends
 pub mod Examples
 pub mod Filled
+pub mod FingerExamples
+pub mod FingerLaws
+mod FingerStrands
+pub mod fingers
 pub mod Generators
 mod Hits
 pub mod IdentityEmbedded
@@ -12,6 +16,7 @@ pub mod IdentityLaws
 mod IdentityTables
 mod KeptTables
 mod LaidThin
+mod LinkTables
 pub mod Laws
 mod LayoutTables
 pub mod Lists
@@ -33,9 +38,12 @@ mod SweepTest
 pub mod Tests
 mod ThinKept
 pub mod Thinned
+mod ThinnedTwice
 mod ThinTables
 pub mod tight
 pub mod TightLaws
 pub mod TreeExamples
 pub mod TreeLaws
+mod TurnAt
+mod TurnLeft
 mod TurnTables

@@ -46,15 +46,15 @@ loosened_none d ok = subst (λ e. Loosened d e) (sym (thinned_none d)) (loosened
 
 module _ (d : Drawing) (gone : ℕ → Bool) where
   -- an exit that is gone
-  thinned_gone : (e : Exit) (es : List Exit) → gone (spot d e) ≡ true → thinned_exits d gone (e ∷ es) ≡ thinned_exits d gone es
+  pub thinned_gone : (e : Exit) (es : List Exit) → gone (spot d e) ≡ true → thinned_exits d gone (e ∷ es) ≡ thinned_exits d gone es
   thinned_gone e es h = rw h refl
 
   -- and one that stays
-  thinned_kept : (e : Exit) (es : List Exit) → gone (spot d e) ≡ false → thinned_exits d gone (e ∷ es) ≡ thinned_exit d gone e ∷ thinned_exits d gone es
+  pub thinned_kept : (e : Exit) (es : List Exit) → gone (spot d e) ≡ false → thinned_exits d gone (e ∷ es) ≡ thinned_exit d gone e ∷ thinned_exits d gone es
   thinned_kept e es h = rw h refl
 
   -- what stays of joined lists
-  thinned_append : (xs ys : List Exit) → thinned_exits d gone (xs ++ ys) ≡ thinned_exits d gone xs ++ thinned_exits d gone ys
+  pub thinned_append : (xs ys : List Exit) → thinned_exits d gone (xs ++ ys) ≡ thinned_exits d gone xs ++ thinned_exits d gone ys
   thinned_append [] ys = refl
   thinned_append (x ∷ xs) ys = elim (cases_Bool (gone (spot d x))) [
     | inl q ↦ thinned_gone x (xs ++ ys) q ∙ (thinned_append xs ys ∙ ap (λ zs. zs ++ thinned_exits d gone ys) (sym (thinned_gone x xs q)))

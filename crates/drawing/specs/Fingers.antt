@@ -20,7 +20,14 @@ chord_at d i c = slice_index_or (strand_chords d i) c (record { from = 0; to = 0
 abbrev pub borders : Drawing → Chord → ℕ → Bool
 borders d c s = let cs = chords d in same_piece cs c.from s || same_piece cs (suc c.from) s
 
--- strand, chord, side and segment exist, and the chord borders the piece of the segment
+-- strand, chord, side and segment exist
+pub record InRange (d : Drawing) (f : Finger) : Type 0 where
+  pub strand : f.strand < arc_count d.polygon
+  pub chord : f.chord ≤ length (strand_exits d f.strand)
+  pub side : f.side < sides d.polygon
+  pub segment : f.segment ≤ points_on d f.side
+
+-- they exist, and the chord borders the piece of the segment
 pub record IsLegal (d : Drawing) (f : Finger) : Type 0 where
   pub strand : f.strand < arc_count d.polygon
   pub chord : f.chord ≤ length (strand_exits d f.strand)

@@ -4,6 +4,8 @@ pub mod Cut
 pub mod Fingers
 pub mod Kept
 pub mod Layout
+pub mod LeftTurns
+pub mod Links
 pub mod Pieces
 pub mod Points
 pub mod Reading

@@ -4,15 +4,19 @@ ghost use Rattle.std.specs.List.{flat_map};
 ghost use Rattle.page_surface.specs.Drawing.{IsEmbedded, all_exits, exit, points_on, spot, strand_exits, words};
 ghost use Rattle.page_surface.specs.Polygon.{arc_count, sides};
 ghost use Rattle.drawing.specs.Cut.{IsCut};
-ghost use Rattle.drawing.specs.Fingers.{borders, chord_at};
+ghost use Rattle.drawing.specs.Fingers.{IsLegal, borders, chord_at, pushed};
 ghost use Rattle.drawing.specs.Strands.{strand_at};
 ghost use Rattle.drawing.specs.Tight.{IsTight, tight_drawing};
 ghost use Rattle.drawing.specs.Turns.{Loosened};
 ghost use Rattle.page_surface.specs.Words.{reduced};
 
+use crate::Finger;
 use crate::layout::Layout;
+use crate::nested::take_nested;
 use crate::pieces::{chord_start, same_piece};
+use crate::push::{order, strands_after};
 use crate::strands::{set_strands, strand_table};
+use crate::turn_links::Links;
 use crate::turns::take_turns;
 use obd_base::{Exit, Items, NoMemory, SideNo, StrandNo};
 use page_surface::Polygon;
@@ -31,6 +35,7 @@ pub struct Drawing {
     strands_at: Vec<StrandNo>,
     gone: Vec<bool>,
     places: Vec<u32>,
+    links: Links,
 }
 
 // By hand, so that a caller's proof holds one call and not the drop of each field.
@@ -43,6 +48,7 @@ impl Drop for Drawing {
             strands_at: _strands_at,
             gone: _gone,
             places: _places,
+            links: _links,
         } = self;
     }
 }
@@ -81,6 +87,7 @@ impl Drawing {
         let points = exit_count(layout.strands());
         let gone = vec![in alloc; false; layout.span_count() as usize]?;
         let places = vec![in alloc; 0; layout.span_count() as usize]?;
+        let links = Links::of(alloc, &layout)?;
         Ok(Drawing {
             alloc,
             layout,
@@ -88,10 +95,12 @@ impl Drawing {
             strands_at,
             gone,
             places,
+            links,
         })
     }
 
-    // Takes turns out of the strands, one with each point at most; answers how many. Linear in the exits and sides.
+    // Takes turns out of the strands, and those that this makes; answers how many. Links are made only where a first look
+    // finds a turn, so a tight drawing costs one look. Linear in the exits and sides.
     fn take_turns(&mut self) -> u32
         ensures valid { IsEmbedded self.old }
         ensures loosened { Loosened self.old self.new }
@@ -99,8 +108,16 @@ impl Drawing {
         ensures tight { result ≡ 0 → IsTight self.new }
     {
         self.gone.fill(false);
-        let turns = take_turns(&self.layout, &mut self.gone);
+        let mut turns = take_turns(&self.layout, &mut self.gone);
         if turns > 0 {
+            turns = take_nested(
+                &self.layout,
+                &self.strands_at,
+                &mut self.links,
+                &mut self.gone,
+                &mut self.places,
+                turns,
+            );
             self.layout.thin(&self.gone, &mut self.places);
             self.points -= 2 * turns;
             self.strands_at.truncate(self.layout.span_count() as usize);
@@ -113,7 +130,8 @@ impl Drawing {
     /// two ends of one chord, until no word has a cancelling pair. What is left is the tight drawing of the reduced
     /// words, whatever the order. Takes no memory.
     ///
-    /// Passes over all exits and sides, each linear, at most one more than the depth to which turns are nested.
+    /// Linear in the exits and sides, however deep turns are nested: one pass takes them out, by links over what is
+    /// gone, and another one finds that none is left. That no third pass is needed is tested and not proved.
     pub fn tighten(&mut self)
         ensures words { words self.new ≡ map (reduced self.old.polygon) (words self.old) }
         ensures tight { IsTight self.new }
@@ -125,8 +143,8 @@ impl Drawing {
         }
     }
 
-    /// The polygon in which the strands lie. Constant time, as are the calls below but `pieces_share`, `word`
-    /// and `exits`; all but the last two take no memory.
+    /// The polygon in which the strands lie. Constant time, as are the calls below but `pieces_share`, `pushed`,
+    /// `word` and `exits`; all but the last three take no memory.
     pub fn polygon(&self) -> &Polygon
         ensures { result.now ≡ self.now.polygon }
     {
@@ -194,6 +212,19 @@ impl Drawing {
             place: segment,
         });
         same_piece(&self.layout, start, segment) || same_piece(&self.layout, start + 1, segment)
+    }
+
+    /// The drawing after a finger: two new points stand in the finger's segment, where the strand leaves after the first
+    /// exits, as many as the chord's number, and comes straight back; all other order stays and no chords cross. Linear
+    /// in the exits and sides.
+    pub fn pushed(&self, finger: &Finger) -> Result<Drawing, NoMemory>
+        requires legal { IsLegal self.now finger.now }
+        requires few { length (all_exits self.now) + 2 < 2 ^ 28 }
+        ensures { IfOk result (λ drawing. drawing ≡ pushed self.now finger.now) }
+    {
+        let out = order(&self.layout, finger);
+        let strands = strands_after(self.alloc, &self.layout, finger, out)?;
+        Drawing::embedded(self.alloc, self.layout.polygon(), strands)
     }
 
     /// The word of a strand: the sides by which it leaves, in order. Linear in the exits of the strand.

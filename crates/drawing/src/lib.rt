@@ -13,12 +13,17 @@ mod drawing;
 mod finger;
 mod identity;
 mod layout;
+mod left_turns;
+mod links;
+mod nested;
 mod pieces;
 mod places;
+mod push;
 mod read;
 mod refusal;
 mod strands;
 mod thinning;
+mod turn_links;
 mod turns;
 mod words;
 
