@@ -9,6 +9,7 @@ mod CopyPlaces
 mod CopySums
 mod CopyTables
 mod CurveRing
+pub mod DrawnWords
 pub mod Examples
 mod Fronts
 mod LabelCounts
@@ -17,6 +18,7 @@ pub mod Laws
 mod OrderTables
 mod LineLabels
 mod LineOrder
+mod LoopTables
 mod LoopWords
 mod Matching
 mod MeetingLabels
@@ -33,6 +35,7 @@ mod NewPlaces
 mod NewPoints
 mod NoCrossing
 mod NotCrossing
+mod NumberTables
 mod Opens
 mod PartLabels
 mod PartNames
@@ -41,6 +44,7 @@ mod PointWords
 mod RingTables
 mod RisingLists
 mod RoundNumbers
+mod RowTables
 mod Rows
 mod Runs
 mod SurgeryWords

@@ -97,7 +97,7 @@ module _ (d : Drawing) (c : List Exit) (ok : AreTaken d c) where
       none false = refl
 
   -- so the counts are those of the meetings' numbers
-  counts_are : (a x : ℕ) → x ≤ size' → count_by (parts mates' (merged_curve d c a)) (below x) ≡ count_by (parted d ok.embedded c ok.curve a) (below x)
+  pub counts_are : (a x : ℕ) → x ≤ size' → count_by (parts mates' (merged_curve d c a)) (below x) ≡ count_by (parted d ok.embedded c ok.curve a) (below x)
   counts_are a x l = counts_same (parts mates' (merged_curve d c a)) (parted d ok.embedded c ok.curve a) (below x) (λ z m. parts_are a z (let h = mem_below x z m in omega (arith, h, l)))
 
   -- there are few numbers
@@ -115,7 +115,7 @@ module _ (d : Drawing) (c : List Exit) (ok : AreTaken d c) where
     rows_few = omega (arith, rows_count, ok.few_exits)
 
     -- a row
-    row_is : (a : ℕ) → a < length c → get_or crossed a [] ≡ crossed_of (merged_mates d c) (merged_curve d c a)
+    pub row_is : (a : ℕ) → a < length c → get_or crossed a [] ≡ crossed_of (merged_mates d c) (merged_curve d c a)
     row_is a l =
         let r : length chords ≡ length c = ap length chords_is ∙ length-map-range_with_len (merged_curve d c) 0 (length c) in
         let t : Chord = record { from = 0; to = 0 } in

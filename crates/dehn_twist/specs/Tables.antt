@@ -1,12 +1,13 @@
 -- The tables from which the surgery is built.
-use Rattle.std.specs.Prelude.{◌≡◌, ℕ, suc, ◌+◌, ◌-◌, ◌≤◌, Bool, cond, nat_lt, ◌&&◌, not, List, map, length, slice_index_or, count_by}
+use Rattle.std.specs.Prelude.{◌≡◌, ℕ, suc, ◌+◌, ◌-◌, ◌≤◌, Bool, cond, nat_lt, ◌&&◌, not, List, map, length, slice_index_or, count_by, []}
 use Rattle.obd_base.specs.Lists.{below}
 use Rattle.obd_base.specs.declared.points.Exit.{Exit}
-use Rattle.page_surface.specs.Drawing.{Chord, Drawing, IsEmbedded, all_exits, beyond, end_of, points_on, strand_exits}
-use Rattle.page_surface.specs.Polygon.{first_side, second_side, sides}
+use Rattle.obd_base.specs.declared.points.Sign.{Sign}
+use Rattle.page_surface.specs.Drawing.{Chord, Drawing, IsEmbedded, all_exits, beyond, end_of, exit, points_on, strand_exits}
+use Rattle.page_surface.specs.Polygon.{Polygon, first_side, second_side, sides}
 use Rattle.curve_paths.specs.Curves.{IsCurve, curve_points}
 use Rattle.drawing.specs.Round.{other_end}
-use Rattle.dehn_twist.specs.Surgery.{chord_at, curve_mate, curve_number, curve_ring, is_chord_end, meetings_upto, merged_chords, merged_curve, merged_cut, merged_start}
+use Rattle.dehn_twist.specs.Surgery.{chord_at, curve_mate, curve_number, curve_ring, goes_up, is_chord_end, loop_at, meeting_count, meetings_upto, meets_at, merged_chords, merged_curve, merged_cut, merged_start, strand_number, surgery_strand}
 use Rattle.dehn_twist.specs.declared.ring.CurvePoint.{CurvePoint}
 
 -- a drawing with a curve on its polygon
@@ -61,3 +62,23 @@ pub record AreMeetings (d : Drawing) (c : List Exit) (chords : List Chord) (cros
 -- the number so many exits after an exit, round
 abbrev pub round : ℕ → ℕ → ℕ → ℕ
 round n a i = cond (nat_lt (a + i) n) (a + i) (a + i - n)
+
+-- the point of the curve with a number
+abbrev pub ring_at : Polygon → List Exit → ℕ → Exit
+ring_at p c i = slice_index_or (curve_ring p c) i (exit 0 0)
+
+-- the number of the point to which a chord comes after so many of all points of the curve
+abbrev pub point_met : Polygon → List Exit → Chord → ℕ → ℕ
+point_met p c t i = cond (goes_up t) i (length (curve_ring p c) - 1 - i)
+
+-- the loop at a point of the curve where a strand's chord meets it, and none elsewhere
+abbrev pub loop_met : Drawing → List Exit → Sign → Chord → Exit → List Exit
+loop_met d c sign t q = cond (meets_at d c t q) (loop_at d c sign (meeting_count d c) t q) []
+
+-- a strand's chord by the merged numbers of its ends
+abbrev pub merged_chord : Drawing → List Exit → Exit → Exit → Chord
+merged_chord d c a z = record { from = strand_number d c a; to = strand_number d c z }
+
+-- a strand with its loops, by its number
+abbrev pub surgery_row : Drawing → List Exit → Sign → ℕ → List Exit
+surgery_row d c sign i = surgery_strand d c sign (meeting_count d c) (end_of d (second_side d.polygon i)) (strand_exits d i) (end_of d (first_side d.polygon i))

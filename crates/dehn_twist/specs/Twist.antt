@@ -1,5 +1,6 @@
 -- The drawing after a single Dehn twist, and after a power of one.
-use Rattle.std.specs.Prelude.{ℕ, zero, suc, List, [], ◌∷◌, ℤ}
+use Rattle.std.specs.Prelude.{ℕ, zero, suc, List, [], ◌∷◌, ℤ, pos, negsuc}
+use Rattle.obd_base.specs.declared.points.Sign.TheVariants.{Minus, Plus}
 use Rattle.obd_base.specs.declared.points.Exit.{Exit}
 use Rattle.obd_base.specs.declared.points.Sign.{Sign}
 use Rattle.page_surface.specs.Drawing.{Drawing, IsEmbedded, words}
@@ -11,6 +12,11 @@ use Rattle.drawing.specs.Tight.{IsTight, tight_drawing}
 -- the tight drawing whose words are the reduced images of the words before
 abbrev pub twisted_drawing : Drawing → List Exit → Sign → Drawing
 twisted_drawing d c sign = tight_drawing d.polygon (twisted d.polygon c sign (words d))
+
+-- a single twist as a power
+abbrev pub unit_power : Sign → ℤ
+unit_power Plus = pos 1
+unit_power Minus = negsuc 0
 
 -- a curve that crosses no side changes nothing
 abbrev pub turned_drawing : Drawing → List Exit → Sign → Drawing

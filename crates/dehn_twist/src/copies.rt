@@ -54,7 +54,7 @@ fn line_index(sign: Sign, lines: u32, upto: u32, line: u32) -> u32
 }
 
 // Appends a loop forward from an exit on.
-fn put_forward(
+pub(crate) fn put_forward(
     merged: &Merged,
     uptos: &[u32],
     sign: Sign,
@@ -79,7 +79,7 @@ fn put_forward(
 }
 
 // Appends a loop backward to an exit.
-fn put_backward(
+pub(crate) fn put_backward(
     merged: &Merged,
     uptos: &[u32],
     sign: Sign,

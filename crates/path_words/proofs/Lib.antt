@@ -21,4 +21,4 @@ pub mod SideLetters
 mod Stacks
 mod Tables
 mod Turning
-mod Turns
+pub mod Turns

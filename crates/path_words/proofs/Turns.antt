@@ -21,7 +21,7 @@ times_none p sign (suc n) ws few = ap (going_on (times p [] sign n)) (limited_wi
 
 module _ (p : Polygon) (c : List Exit) (sign : Sign) where
   -- a curve with an exit turns the words
-  turned_by_some : (ws : List (List ℕ)) → 1 ≤ length c → turned_by p c sign ws ≡ twisted p c sign ws
+  pub turned_by_some : (ws : List (List ℕ)) → 1 ≤ length c → turned_by p c sign ws ≡ twisted p c sign ws
   turned_by_some ws some = by_cases c some
     where
       by_cases : (es : List Exit) → 1 ≤ length es → turned_by p es sign ws ≡ twisted p es sign ws

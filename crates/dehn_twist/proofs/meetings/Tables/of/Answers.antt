@@ -1,7 +1,7 @@
 use Rattle.std.proofs.Common.{◌∙◌, ℕ, List, ap, arith, length, map, subst, sym}
 use Rattle.dehn_twist.specs.Tables.{AreMeetings, crossed_of}
 use Rattle.dehn_twist.proofs.MeetingTables.{mates_few, meetings_made, row_long, row_small, rows_few}
-use Rattle.dehn_twist.proofs.meetings.Meetings.of.Goals as goal
+use Rattle.dehn_twist.proofs.meetings.Tables.of.Goals as goal
 
 pub all_crossed-requires : goal.all_crossed-requires
 all_crossed-requires c =
