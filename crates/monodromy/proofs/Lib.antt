@@ -1,0 +1,5 @@
+mod Curves
+mod FirstWords
+pub mod Laws
+mod TurnsSoFar
+mod Refusals

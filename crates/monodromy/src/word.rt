@@ -1,0 +1,147 @@
+// The drawing of a whole twist word.
+ghost use Rattle.std.specs.Prelude.{◌≡◌, ◌≤◌, ℕ, length, map, All, Ok, Err, IfOk, IfErr, IfSome, IsTrue, OnOk};
+ghost use Rattle.page_surface.specs.Drawing.{all_exits, words};
+ghost use Rattle.curve_paths.specs.Curves.{IsCurve};
+ghost use Rattle.curve_paths.specs.Twists.{by_entries, by_entry, exits_of, words_after};
+ghost use Rattle.drawing.specs.Tight.{IsTight};
+ghost use Rattle.monodromy.specs.Drawn.{IsDrawn};
+ghost use Rattle.curve_paths.specs.declared.twist.TooLong.{TooLong as Long};
+
+use crate::compare::has_words;
+use crate::curve::curve_of;
+use crate::refusal::MonodromyRefusal;
+use crate::sums::added_up;
+use crate::turns::by_power;
+use crate::words::words_of;
+use curve_paths::{Curve, TooLong, Twist};
+use drawing::Drawing;
+use obd_base::{Items, NoMemory, SideNo};
+use page_surface::Polygon;
+use path_words::TwistRefusal;
+use std::alloc::Global;
+use tight_curves::all_made_tight;
+
+// One entry of a twist word, along tight curves.
+fn turn_by_entry(
+    alloc: Global,
+    curves: &[Option<Curve>],
+    number: u64,
+    twist: &Twist,
+    drawing: &mut Drawing,
+) -> Result<(), MonodromyRefusal>
+    requires curves { All (λ curve. IfSome curve (IsCurve drawing.old.polygon)) curves.now }
+    requires few { length (all_exits drawing.old) ≤ 4000 }
+    requires tight { IsTight drawing.old }
+    ensures turned { OnOk result (by_entry drawing.old.polygon (map exits_of curves.now) number twist.now (words drawing.old) ≡ Ok (words drawing.new)) }
+    ensures polygon { OnOk result (drawing.new.polygon ≡ drawing.old.polygon) }
+    ensures few { OnOk result (length (all_exits drawing.new) ≤ 4000) }
+    ensures tight { OnOk result (IsTight drawing.new) }
+    ensures long { IfErr result (λ refusal. (long : Long) → refusal ≡ MonodromyRefusal.TooLong long
+        → by_entry drawing.old.polygon (map exits_of curves.now) number twist.now (words drawing.old) ≡ Err long) }
+{
+    match by_power(alloc, drawing, curve_of(curves, twist.curve), twist.power) {
+        Ok(()) => Ok(()),
+        Err(TwistRefusal::TooLong { letters }) => Err(MonodromyRefusal::TooLong(TooLong {
+            twist: number,
+            letters,
+        })),
+        Err(TwistRefusal::NoMemory) => Err(MonodromyRefusal::NoMemory),
+    }
+}
+
+// All entries of a twist word, along tight curves, the first one first.
+fn turn_by_word(
+    alloc: Global,
+    curves: &[Option<Curve>],
+    twists: &[Twist],
+    drawing: &mut Drawing,
+) -> Result<(), MonodromyRefusal>
+    requires curves { All (λ curve. IfSome curve (IsCurve drawing.old.polygon)) curves.now }
+    requires few { length (all_exits drawing.old) ≤ 4000 }
+    requires tight { IsTight drawing.old }
+    ensures turned { OnOk result (by_entries drawing.old.polygon (map exits_of curves.now) 0 twists.now (words drawing.old) ≡ Ok (words drawing.new)) }
+    ensures polygon { OnOk result (drawing.new.polygon ≡ drawing.old.polygon) }
+    ensures few { OnOk result (length (all_exits drawing.new) ≤ 4000) }
+    ensures tight { OnOk result (IsTight drawing.new) }
+    ensures long { IfErr result (λ refusal. (long : Long) → refusal ≡ MonodromyRefusal.TooLong long
+        → by_entries drawing.old.polygon (map exits_of curves.now) 0 twists.now (words drawing.old) ≡ Err long) }
+{
+    for (number, twist) in twists.iter().enumerate() {
+        turn_by_entry(alloc, curves, number as u64, twist, drawing)?;
+    }
+    Ok(())
+}
+
+// The drawing of a twist word along tight curves.
+fn drawn_in_full(
+    alloc: Global,
+    polygon: &Polygon,
+    curves: &[Option<Curve>],
+    twists: &[Twist],
+) -> Result<Drawing, MonodromyRefusal>
+    requires { All (λ curve. IfSome curve (IsCurve polygon.now)) curves.now }
+    ensures drawn { IfOk result (λ drawing. IsDrawn polygon.now (words drawing) drawing) }
+    ensures words { IfOk result (λ drawing. words_after polygon.now (map exits_of curves.now) twists.now ≡ Ok (words drawing)) }
+    ensures long { IfErr result (λ refusal. (long : Long) → refusal ≡ MonodromyRefusal.TooLong long
+        → words_after polygon.now (map exits_of curves.now) twists.now ≡ Err long) }
+{
+    let _ = polygon.sides();
+    let mut drawing = Drawing::identity(alloc, polygon)?;
+    turn_by_word(alloc, curves, twists, &mut drawing)?;
+    let _ = drawing.points();
+    Ok(drawing)
+}
+
+// The drawing of a twist word along tight curves, by its entries added up, if it has these words.
+fn drawn_by_sums(
+    alloc: Global,
+    polygon: &Polygon,
+    curves: &[Option<Curve>],
+    twists: &[Twist],
+    wanted: &[Items<SideNo>],
+) -> Result<Option<Drawing>, NoMemory>
+    requires { All (λ curve. IfSome curve (IsCurve polygon.now)) curves.now }
+    ensures { IfOk result (λ drawing. IfSome drawing (IsDrawn polygon.now wanted.now)) }
+{
+    let sums = added_up(alloc, twists)?;
+    match drawn_in_full(alloc, polygon, curves, &sums) {
+        Ok(drawing) => {
+            let same = has_words(&drawing, wanted)?;
+            Ok(if same { Some(drawing) } else { None })
+        }
+        Err(MonodromyRefusal::TooLong(_)) => Ok(None),
+        Err(MonodromyRefusal::NoMemory) => Err(NoMemory),
+    }
+}
+
+/// The drawing of a twist word along some curves, each by its number in the list: the entries are carried out on the
+/// identity drawing one after another, the first one first, each as so many single twists. It is the tight drawing of
+/// the words of the arcs' images, and these have at most 4,000 letters together after each single twist. `None` is a
+/// curve that crosses no side.
+///
+/// `TooLong` comes exactly where after some single twist the words have more than 4,000 letters together, and tells the
+/// entry and the letters of the first such twist.
+///
+/// The words are found first, for each single twist linear in the letters that are set, and each curve is made tight once.
+/// Then neighbouring entries along one curve are added up, and each single twist that is left is drawn at the cost of
+/// `dehn_twist::twist`. That adding up changes nothing isn't proved here, so the words decide: a drawing with other words
+/// than those would be made anew from all entries. Twists along a curve that bounds a disk cost nothing.
+pub fn drawn(
+    alloc: Global,
+    polygon: &Polygon,
+    curves: &[Option<Curve>],
+    twists: &[Twist],
+) -> Result<Drawing, MonodromyRefusal>
+    requires { All (λ curve. IfSome curve (IsCurve polygon.now)) curves.now }
+    ensures words { IfOk result (λ drawing. words_after polygon.now (map exits_of curves.now) twists.now ≡ Ok (words drawing)) }
+    ensures drawn { IfOk result (λ drawing. IsDrawn polygon.now (words drawing) drawing) }
+    ensures long { IfErr result (λ refusal. (long : Long) → refusal ≡ MonodromyRefusal.TooLong long
+        → words_after polygon.now (map exits_of curves.now) twists.now ≡ Err long) }
+{
+    let words = words_of(alloc, polygon, curves, twists)?;
+    let tight = all_made_tight(alloc, polygon, curves)?;
+    match drawn_by_sums(alloc, polygon, tight.as_slice(), twists, words.as_slice())? {
+        Some(drawing) => Ok(drawing),
+        None => drawn_in_full(alloc, polygon, tight.as_slice(), twists),
+    }
+}
