@@ -1,1 +1,9 @@
+pub mod Counted
+pub mod EdgeKinds
+pub mod Edges
+pub mod Ends
+pub mod Listed
+pub mod Naming
 pub mod Nice
+pub mod Reads
+pub mod Table

@@ -1,0 +1,8 @@
+use Rattle.std.proofs.Common.{◌≡◌, take}
+use Rattle.std.specs.List.{sum_by}
+use Rattle.region_table.specs.Table.{share}
+use Rattle.region_table.proofs.regions.Regions.weight.Given as goal
+
+-- the weight of the pieces so far
+abbrev pub invariant-loop-region : goal.invariant-loop-region
+invariant-loop-region l = l.weight ≡ sum_by share (take l.region-index l.region-items)

@@ -1,0 +1,57 @@
+// Names of pieces: each span has the number of its piece, and the pieces are numbered in the order of their first spans.
+ghost use Rattle.std.specs.Prelude.{◌≡◌, ℕ, ◌<◌, ◌^◌, map, length, slice_index, IfOk};
+ghost use Rattle.page_surface.specs.Drawing.{IsEmbedded, chords};
+ghost use Rattle.drawing.specs.Pieces.{span_count, spans};
+ghost use Rattle.drawing.specs.Round.{other_end};
+ghost use Rattle.region_table.specs.Naming.{fresh_names};
+ghost use Rattle.region_table.specs.Counted.{AreCounted};
+
+use drawing::Drawing;
+use obd_base::NoMemory;
+use std::alloc::Global;
+
+// The number of the piece of each span.
+pub(crate) fn number_pieces(
+    alloc: Global,
+    drawing: &Drawing,
+    mates: &[u32],
+) -> Result<Vec<u32>, NoMemory>
+    requires embedded { IsEmbedded drawing.now }
+    requires mates { mates.now ≡ map (other_end (chords drawing.now)) (spans drawing.now) }
+    requires few { span_count drawing.now < 2 ^ 30 }
+    ensures { IfOk result (λ names. names.items ≡ fresh_names drawing.now) }
+{
+    let mut names: Vec<u32> = Vec::new(alloc);
+    names.push(0)?;
+    let mut count: u32 = 1;
+    for at in 1..mates.len() {
+        let mate = mates[at - 1];
+        if mate >= at as u32 {
+            names.push(count)?;
+            count += 1;
+        } else {
+            let name = names[mate as usize];
+            names.push(name)?;
+        }
+    }
+    Ok(names)
+}
+
+// How many spans have each name, and the first of them. Before it the sizes are 0.
+pub(crate) fn count_spans(names: &[u32], sizes: &mut [u32], firsts: &mut [u32])
+    requires few { length names.now < 2 ^ 30 }
+    requires told { (s : ℕ) → s < length names.now → slice_index names.now s < length sizes.old }
+    requires as_many { length firsts.old ≡ length sizes.old }
+    requires none { (p : ℕ) → slice_index sizes.old p ≡ 0 }
+    ensures counted { AreCounted (λ s. slice_index names.now s) (length names.now) sizes.new firsts.new }
+    ensures size { length sizes.new ≡ length sizes.old }
+    ensures first_size { length firsts.new ≡ length firsts.old }
+{
+    for at in 0..names.len() {
+        let name = names[at] as usize;
+        if sizes[name] == 0 {
+            firsts[name] = at as u32;
+        }
+        sizes[name] += 1;
+    }
+}
