@@ -1,0 +1,16 @@
+pub mod Branches
+pub mod Chosen
+pub mod Completion
+pub mod ContactLast
+pub mod Examples
+pub mod Members
+pub mod NextPoints
+pub mod Order
+pub mod PackedRows
+pub mod Pruning
+pub mod PrunedSearch
+pub mod SetTables
+pub mod Searched
+pub mod Sorted
+pub mod StrandPoints
+pub mod StrandSets
