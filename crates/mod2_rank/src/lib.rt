@@ -1,7 +1,19 @@
-//! Columns modulo two: sums, rank, pivots, chains and functionals. For now this crate holds definitions and the
-//! types of an outcome alone. The elimination order is this project's own.
+//! Columns modulo two: sums, rank, pivots, chains and functionals, and the elimination that finds them.
+//!
+//! A column is the ascending list of its rows, and the contact row is the last one. `eliminate` takes the columns from
+//! the first to the last, and reduces each from its least row on. The elimination order is this project's own. Laws that
+//! hold of any columns stand in `proofs/Laws`.
 #![tactic(auto)]
 
+mod blocks;
+mod elimination;
+mod one_column;
 mod outcome;
+mod row_set;
+mod written;
 
+pub use elimination::eliminate;
 pub use outcome::{Outcome, Pivot, Verdict};
+
+#[cfg(test)]
+mod tests;
