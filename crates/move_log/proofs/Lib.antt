@@ -1,0 +1,5 @@
+mod Entries
+pub mod Examples
+mod Logs
+mod Numbers
+mod Words
