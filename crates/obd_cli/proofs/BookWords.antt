@@ -9,6 +9,7 @@ use Rattle.obd_doc.specs.declared.book.Book.{Book}
 use Rattle.obd_doc.specs.declared.book.NamedCurve.{NamedCurve}
 use Rattle.obd_cli.specs.Opened.{open_book, paths_of}
 use Rattle.obd_cli.specs.Words.{book_words}
+use Rattle.witness_check.specs.OpenBook.{Surface}
 
 -- the curves by name and crossings have the book's names
 names_same : (curves : List NamedCurve) → map (λ (path : NamedPath). path.name) (paths_of curves) ≡ map (λ (curve : NamedCurve). curve.name) curves
@@ -26,3 +27,8 @@ unfolding book_words
 book_words_are book valid =
     let s = joined_surface (open_book book) in
     ap (λ (twists : List Twist). words_after s.polygon s.curves twists) (sym (entries_are book valid))
+
+-- and those of any surface that is the book's
+pub words_on_surface : (book : Book) (s : Surface) → s ≡ joined_surface (open_book book) → words_after s.polygon s.curves book.twists ≡ book_words book
+unfolding book_words
+words_on_surface book s is = ap (λ (s : Surface). words_after s.polygon s.curves book.twists) is

@@ -1,9 +1,10 @@
 -- A certificate whose lines are made from the surface, the drawings and the complex of a book is the book's.
-use Rattle.std.proofs.Common.{◌≡◌, ℕ, ℤ, ◌+◌, List, [], map, refl, sym, ◌∙◌, ap, Some, arith}
+use Rattle.std.proofs.Common.{◌≡◌, ℕ, ℤ, ◌+◌, ◌≤◌, List, [], refl, sym, ◌∙◌, ap, Some, arith}
 use Rattle.std.specs.Prelude.{pos, ◌-ℤ◌, ◌*◌}
 use Rattle.curve_paths.specs.declared.named.NamedTwist.{NamedTwist}
 use Rattle.witness_check.proofs.Laws.{contact_last, last_column}
 use Rattle.obd_doc.specs.declared.book.Book.{Book}
+use Rattle.obd_cli.specs.Opened.{named_twists}
 use Rattle.obd_cli.specs.Steps.{AreDrawings, AreLastLines, ArePageLines, IsCertificateOf, IsComplexOf, IsSurfaceOf, shown}
 use Rattle.obd_cli.specs.declared.certify.LastLines.{LastLines}
 use Rattle.obd_cli.specs.declared.certify.PageLines.{PageLines}
@@ -12,9 +13,10 @@ use Rattle.obd_cli.specs.declared.moves.Moved.{Moved}
 use Rattle.obd_cli.specs.declared.surface.Surface.{Surface}
 
 -- every line is that of the book
-pub all_belong : (book : Book) (s : Surface) (m : Moved) (x : Complex) (page : PageLines) (lines : LastLines) → IsSurfaceOf book s → book.slides ≡ [] → book.twists ≡ [] → AreDrawings book s m → IsComplexOf m.last x
+pub all_belong : (book : Book) (s : Surface) (m : Moved) (x : Complex) (page : PageLines) (lines : LastLines) → IsSurfaceOf book s → book.slides ≡ [] → AreDrawings book s m
+    → book.limits.generators ≤ 20000 → IsComplexOf m.last book.limits.generators x
     → ArePageLines book s page → AreLastLines m.last lines
-    → (slides : List ℕ) (twists : List NamedTwist) (contact : ℕ) (homology : ℤ) → slides ≡ [] → twists ≡ [] → contact + 1 ≡ x.generators → homology ≡ pos x.generators -ℤ pos (2 * x.outcome.rank)
+    → (slides : List ℕ) (twists : List NamedTwist) (contact : ℕ) (homology : ℤ) → slides ≡ [] → twists ≡ named_twists book → contact + 1 ≡ x.generators → homology ≡ pos x.generators -ℤ pos (2 * x.outcome.rank)
     → IsCertificateOf book (record {
       version = 1;
       polygons = page.polygons;
@@ -34,7 +36,7 @@ pub all_belong : (book : Book) (s : Surface) (m : Moved) (x : Complex) (page : P
       homology = homology;
       verdict = x.outcome.verdict;
     })
-all_belong book s m x page lines surface no_slide no_twist drawings complex told shown_last slides twists contact homology sl tw last ho =
+all_belong book s m x page lines surface no_slide drawings limit complex told shown_last slides twists contact homology sl tw last ho =
     let at = last ∙ complex.count in
     record {
       belongs = record {
@@ -42,7 +44,7 @@ all_belong book s m x page lines surface no_slide no_twist drawings complex told
         polygons = told.polygons;
         curves = told.curves;
         slides = sl ∙ sym no_slide;
-        twists = tw ∙ sym (ap (map _) no_twist);
+        twists = tw;
         surface = shown s;
         surface_is = surface.surface;
         seams = told.seams;
@@ -55,7 +57,7 @@ all_belong book s m x page lines surface no_slide no_twist drawings complex told
         last_is = drawings.moved.leads;
         finals = shown_last.finals;
         generators_are = complex.count;
-        few_generators = omega (arith, complex.most);
+        few_generators = omega (arith, complex.within, limit);
         points = shown_last.points;
         contact = contact_last m.last contact at ∙ ap Some (sym shown_last.points);
         contact_last = last;
@@ -64,4 +66,5 @@ all_belong book s m x page lines surface no_slide no_twist drawings complex told
         homology = ho;
       };
       sparing = drawings.moved.sparing;
+      within = complex.within;
     }

@@ -3,12 +3,14 @@ use Rattle.std.proofs.Common.{◌≡◌, ℕ, ◌≤◌, List, ◌++◌, length,
 use Rattle.std.specs.Io.KnownBytes.{Consumes, Appends, IsAtEnd}
 use Rattle.std.proofs.lemmas.Bool.{lt-ltb, le-ltb}
 use Rattle.std.proofs.lemmas.List.{append-nil}
-use Rattle.std.specs.Option.{option_map_or}
 use Rattle.curve_paths.specs.declared.twist.TooLong.{TooLong}
 use Rattle.obd_doc.specs.Document.{book_read, refusal_of}
 use Rattle.obd_doc.specs.declared.book.Book.{Book}
 use Rattle.obd_doc.specs.declared.refusal.DocRefusal.{DocRefusal}
-use Rattle.obd_cli.specs.Run.{AnswersBuilt, AnswersDoc, Finished, IsFault, Owes, Told, book_status, has_text, most_bytes, not_built, page_answer, status_owed}
+use Rattle.obd_cli.proofs.Built.{no_slide_taken}
+use Rattle.obd_cli.proofs.OverLimit.{words_limited, words_not_over}
+use Rattle.obd_cli.proofs.Stops.{words_answered, words_done, words_no_usage}
+use Rattle.obd_cli.specs.Run.{AnswersBuilt, AnswersDoc, Finished, HasBookStatus, HasReadStatus, HasStatus, IsFault, Owes, Told, has_text, most_bytes, not_built, page_answer}
 use Rattle.obd_cli.specs.Words.{book_words, words_text}
 use Rattle.obd_cli.specs.declared.status.Command.{Command}
 use Rattle.obd_cli.specs.declared.status.Command.TheVariants as command
@@ -25,7 +27,7 @@ built_done command book None answer answers done = answers
 doc_done : (command : Command) (refusal : Option DocRefusal) (book : Option Book) (answer : Answer) → AnswersDoc command refusal book answer → answer.status ≡ status.Done
     → (b : Book) × (book ≡ Some b) × AnswersBuilt command b None answer
 doc_done command (Some refusal) book answer answers done = absurd (let bad = sym done ∙ ap (λ (a : Answer). a.status) answers in cc)
-doc_done command None (Some book) answer answers done = (book, refl, built_done command book (not_built command book) answer answers done)
+doc_done command None (Some book) answer answers done = (book, refl, built_done command book (not_built book) answer answers done)
 doc_done command None None answer answers done = absurd answers
 
 -- the answer of `page` with Done has words
@@ -37,7 +39,8 @@ page_done book (Err long) answer is done = absurd (let bad = sym done ∙ ap (λ
 -- a command that ended with Done
 finished : (command : Command) (bytes : List ℕ) (left now_left written now_written : Option (List ℕ)) (book : Book) (answer : Answer) → Consumes left now_left bytes → IsAtEnd now_left
     → book_read bytes ≡ Some book → AnswersBuilt command book None answer → answer.status ≡ status.Done → Appends written now_written answer.text → Finished (Some command) left now_left written now_written
-finished command.Decide bytes left now_left written now_written book answer gave ended read certifies done wrote =
+finished command.Decide bytes left now_left written now_written book answer gave ended read answers done wrote =
+    let certifies = words_done book (book_words book) answer answers done in
     record {
       bytes = bytes;
       gave = gave;
@@ -85,29 +88,34 @@ as_many bytes gave None consumes = absurd consumes
 as_many bytes gave (Some rest) consumes = omega (arith, ap length consumes, length-append gave rest)
 
 -- the status of the answer to a book
-built_status : (command : Command) (book : Book) (what : Option (List ℕ)) (answer : Answer) → AnswersBuilt command book what answer → answer.status ≡ book_status command book what
-built_status command book (Some what) answer answers = ap (λ (a : Answer). a.status) answers
-built_status command.Decide book None answer answers = answers.done
-built_status command.Page book None answer answers = ap (λ (a : Answer). a.status) answers
+built_status : (command : Command) (book : Book) (what : Option (List ℕ)) (answer : Answer) → not_built book ≡ what → AnswersBuilt command book what answer → HasBookStatus command book what answer.status
+built_status command book (Some what) answer is answers = ap (λ (a : Answer). a.status) answers
+built_status command.Decide book None answer is answers =
+    let no_slide = no_slide_taken book is in (
+      words_answered book (book_words book) answer answers,
+      words_not_over book (book_words book) answer no_slide answers,
+      λ limits. (words_limited book (book_words book) answer no_slide answers limits).0,
+    )
+built_status command.Page book None answer is answers = ap (λ (a : Answer). a.status) answers
 
 -- where a rule fails there is no book
 no_book : (bytes : List ℕ) (refusal : DocRefusal) → refusal_of bytes ≡ Some refusal → book_read bytes ≡ None
 no_book bytes refusal is = rw is refl
 
 doc_status : (command : Command) (bytes : List ℕ) (refusal : Option DocRefusal) (book : Option Book) (answer : Answer) → refusal_of bytes ≡ refusal → book_read bytes ≡ book
-    → AnswersDoc command refusal book answer → answer.status ≡ option_map_or (λ b. book_status command b (not_built command b)) book status.Refused
+    → AnswersDoc command refusal book answer → HasReadStatus command book answer.status
 doc_status command bytes (Some refusal) (Some book) answer is read answers = absurd (let bad = sym read ∙ no_book bytes refusal is in cc)
 doc_status command bytes (Some refusal) None answer is read answers = ap (λ (a : Answer). a.status) answers
-doc_status command bytes None (Some book) answer is read answers = built_status command book (not_built command book) answer answers
+doc_status command bytes None (Some book) answer is read answers = built_status command book (not_built book) answer refl answers
 doc_status command bytes None None answer is read answers = absurd answers
 
 -- what is owed for bytes that are told has the status that is owed
-owed_status : (command : Command) (bytes : List ℕ) (now_left : Option (List ℕ)) (answer : Answer) → Owes (Some command) (Some bytes) now_left answer → answer.status ≡ status_owed command bytes
+owed_status : (command : Command) (bytes : List ℕ) (now_left : Option (List ℕ)) (answer : Answer) → Owes (Some command) (Some bytes) now_left answer → HasStatus command bytes answer.status
 owed_status command bytes now_left answer (inl all) =
     let same = all_given bytes all.bytes now_left all.gave all.ended in
     let within : ltb most_bytes (length bytes) ≡ false = le-ltb most_bytes (length bytes) (omega (arith, all.within, ap length same)) in
     let by_bytes = doc_status command all.bytes (refusal_of all.bytes) (book_read all.bytes) answer refl refl all.answers in
-    rw within (by_bytes ∙ ap (λ bs. option_map_or (λ b. book_status command b (not_built command b)) (book_read bs) status.Refused) same)
+    rw within (subst (λ bs. HasReadStatus command (book_read bs) answer.status) same by_bytes)
 owed_status command bytes now_left answer (inr long) =
     let above : ltb most_bytes (length bytes) ≡ true = lt-ltb most_bytes (length bytes) (omega (arith, long.size, as_many bytes long.bytes now_left long.gave)) in
     rw above (ap (λ (a : Answer). a.status) long.answers)
@@ -115,30 +123,32 @@ owed_status command bytes now_left answer (inr long) =
 -- a run over a source that tells its bytes ends with the status that is owed, or a fault
 pub completed : (bytes : List ℕ) (which : Command) (command : Option Command) (left now_left written now_written : Option (List ℕ)) (result : Status)
     → command ≡ Some which → left ≡ Some bytes → (has_text result ≡ true → Told command left now_left written now_written result)
-    → (has_text result ≡ true) ⊎ IsFault result → (result ≡ status_owed which bytes) ⊎ IsFault result
+    → (has_text result ≡ true) ⊎ IsFault result → HasStatus which bytes result ⊎ IsFault result
 completed bytes which command left now_left written now_written result is tells told (inr fault) = inr fault
 completed bytes which command left now_left written now_written result is tells told (inl text) =
     let wrote = told text in
-    inl (sym wrote.same ∙ owed_status which bytes now_left wrote.answer (subst (λ c. Owes c (Some bytes) now_left wrote.answer) is (subst (λ l. Owes command l now_left wrote.answer) tells wrote.owed)))
+    let owed = subst (λ c. Owes c (Some bytes) now_left wrote.answer) is (subst (λ l. Owes command l now_left wrote.answer) tells wrote.owed) in
+    inl (subst (HasStatus which bytes) wrote.same (owed_status which bytes now_left wrote.answer owed))
 
 -- the status of an answer to a book, or to none, isn't Usage
 page_no_usage : (book : Book) (found : Result (List (List ℕ)) TooLong) → (page_answer book found).status ≡ status.Usage → ⊥
 page_no_usage book (Ok words) is = let bad = is in cc
 page_no_usage book (Err long) is = let bad = is in cc
 
-book_no_usage : (command : Command) (book : Book) (what : Option (List ℕ)) → book_status command book what ≡ status.Usage → ⊥
+book_no_usage : (command : Command) (book : Book) (what : Option (List ℕ)) → HasBookStatus command book what status.Usage → ⊥
 book_no_usage command book (Some what) is = let bad = is in cc
-book_no_usage command.Decide book None is = let bad = is in cc
-book_no_usage command.Page book None is = page_no_usage book (book_words book) is
+book_no_usage command.Decide book None is = words_no_usage book (book_words book) (sym is.0)
+book_no_usage command.Page book None is = page_no_usage book (book_words book) (sym is)
 
-status_no_usage : (command : Command) (book : Option Book) → option_map_or (λ b. book_status command b (not_built command b)) book status.Refused ≡ status.Usage → ⊥
-status_no_usage command (Some book) is = book_no_usage command book (not_built command book) is
+status_no_usage : (command : Command) (book : Option Book) → HasReadStatus command book status.Usage → ⊥
+status_no_usage command (Some book) is = book_no_usage command book (not_built book) is
 status_no_usage command None is = let bad = is in cc
 
 -- a command's answer isn't the usage line
 command_no_usage : (command : Command) (left now_left : Option (List ℕ)) (answer : Answer) → Owes (Some command) left now_left answer → answer.status ≡ status.Usage → ⊥
 command_no_usage command left now_left answer (inl all) is =
-    status_no_usage command (book_read all.bytes) (sym (doc_status command all.bytes (refusal_of all.bytes) (book_read all.bytes) answer refl refl all.answers) ∙ is)
+    status_no_usage command (book_read all.bytes)
+    (subst (HasReadStatus command (book_read all.bytes)) is (doc_status command all.bytes (refusal_of all.bytes) (book_read all.bytes) answer refl refl all.answers))
 command_no_usage command left now_left answer (inr long) is = let bad = sym (ap (λ (a : Answer). a.status) long.answers) ∙ is in cc
 
 -- so Usage is told for words that are no command

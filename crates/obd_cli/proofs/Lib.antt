@@ -1,11 +1,16 @@
+mod Ascending
 pub mod BookWords
 mod Built
 mod Certified
 mod Collected
-mod Listed
+mod Counted
 mod Decides
-mod FirstWords
+mod FirstDrawn
+mod LimitRead
+mod Limits
 mod Named
 mod NoFinger
+mod OverLimit
+mod PieceCounts
+mod Stops
 mod Surfaces
-mod WordsSoFar

@@ -1,4 +1,4 @@
--- The lines of refusals: `refused`, a code, a name and the values that the rule keeps.
+-- The lines of refusals: `refused`, a code, a name and the values that the rule keeps. And the line of a limit.
 use Rattle.std.specs.Prelude.{ℕ, List, [], ◌∷◌, ◌++◌, codes, decimal, map}
 use Rattle.curve_paths.specs.declared.refusal.CurveRefusal.{CurveRefusal}
 use Rattle.curve_paths.specs.declared.refusal.CurveRefusal.TheVariants as curve
@@ -58,3 +58,7 @@ doc_line (doc.RepeatedCurve name) = refused_line 21 (codes "RepeatedCurve") (nam
 doc_line (doc.Curve name refusal) = curve_line name refusal
 doc_line (doc.UnknownCurve twist) = refused_line 31 (codes "UnknownCurve") [] (twist ∷ [])
 doc_line doc.NoMemory = []
+
+-- the line that there are more generators than a limit, with the limit and one
+abbrev pub limit_line : ℕ → List ℕ
+limit_line over = line (codes "generator-limit") (decimal over ∷ [])

@@ -1,15 +1,21 @@
 -- What a run owes.
-use Rattle.std.specs.Prelude.{◌≡◌, ◌⊎◌, ℕ, ◌+◌, ◌≤◌, List, [], ◌∷◌, length, codes, Bool, true, false, not, ◌&&◌, nat_eq, nat_lt, if◌then◌else◌, Option, Some, None, Result, Ok, Err}
-use Rattle.std.specs.Option.{option_map_or}
+use Rattle.std.specs.Prelude.{◌≡◌, ◌⊎◌, ℕ, ◌+◌, ◌≤◌, List, [], ◌∷◌, filter, length, codes, Bool, true, false, nat_lt, if◌then◌else◌, Option, Some, None, Result, Ok, Err}
 use Rattle.std.specs.Str.{bytes_eq}
 use Rattle.std.specs.Io.KnownBytes.{Consumes, Appends, IsAtEnd}
 use Rattle.obd_base.specs.Streams.{TookPrefix}
+use Rattle.page_surface.specs.Drawing.{Drawing}
 use Rattle.curve_paths.specs.declared.twist.TooLong.{TooLong}
+use Rattle.drawing.specs.Pieces.{badness, inner_pieces}
+use Rattle.drawing.specs.Points.{generators}
+use Rattle.drawing.specs.Tight.{tight_drawing}
+use Rattle.witness_check.specs.Belonging.{IsFirstDrawing}
+use Rattle.witness_check.specs.OpenBook.{joined_surface}
+use Rattle.obd_cli.specs.Opened.{open_book}
 use Rattle.obd_doc.specs.Document.{book_read, refusal_of}
 use Rattle.obd_doc.specs.declared.book.Book.{Book}
 use Rattle.obd_doc.specs.declared.refusal.DocRefusal.{DocRefusal}
-use Rattle.obd_cli.specs.Steps.{IsCertificateOf}
-use Rattle.obd_cli.specs.Refused.{doc_line, refused_line}
+use Rattle.obd_cli.specs.Steps.{IsCertificateOf, IsOverLimit}
+use Rattle.obd_cli.specs.Refused.{doc_line, limit_line, refused_line}
 use Rattle.witness_check.specs.Text.{certificate_text}
 use Rattle.obd_cli.specs.Words.{book_words, long_line, words_text}
 use Rattle.witness_check.specs.declared.certificate.Certificate.{Certificate}
@@ -42,18 +48,11 @@ refused_with text = record { status = status.Refused; text = text }
 abbrev pub too_long : Answer
 too_long = refused_with (refused_line 1 (codes "InputLong") [] (most_bytes ∷ []))
 
--- what `decide` doesn't take, and `page` takes
-abbrev pub not_decided : Command → Book → Option (List ℕ)
-not_decided command.Decide book =
-    if not (nat_eq book.limits.moves 20000 && nat_eq book.limits.generators 20000) then Some (codes "limits") else
-    if nat_lt 0 (length book.twists) then Some (codes "twists") else None
-not_decided command.Page book = None
-
--- what of a book a command doesn't take yet
-abbrev pub not_built : Command → Book → Option (List ℕ)
-not_built command book =
+-- what of a book no command takes yet
+abbrev pub not_built : Book → Option (List ℕ)
+not_built book =
     if nat_lt 1 (length book.page) then Some (codes "polygons") else
-    if nat_lt 0 (length book.slides) then Some (codes "slides") else not_decided command book
+    if nat_lt 0 (length book.slides) then Some (codes "slides") else None
 
 -- the answer is the text of a certificate that belongs to the book
 pub record Certifies (book : Book) (answer : Answer) : Type 0 where
@@ -61,6 +60,48 @@ pub record Certifies (book : Book) (answer : Answer) : Type 0 where
   pub certificate : Certificate
   pub belongs : IsCertificateOf book certificate
   pub text : answer.text ≡ certificate_text certificate
+
+-- the pieces that stand in the way of a nice drawing: those that aren't base and have badness above 0
+abbrev pub bad_pieces : Drawing → List ℕ
+bad_pieces d = filter (λ s. nat_lt 0 (badness d s)) (inner_pieces d)
+
+-- the greatest number of pieces that aren't base of a drawing that `decide` takes
+abbrev pub most_pieces : ℕ
+most_pieces = 16
+
+-- the answers in place of a certificate: to a first drawing with so many bad pieces,
+abbrev pub not_nice : ℕ → Answer
+not_nice bad = refused_with (refused_line 91 (codes "NotNice") [] (bad ∷ []))
+
+-- to more generators than a limit, by the limit and one,
+abbrev pub over_limit : ℕ → Answer
+over_limit over = record { status = status.GeneratorLimit; text = limit_line over }
+
+-- and to too many pieces that aren't base
+abbrev pub not_small : ℕ → Answer
+not_small pieces = refused_with (refused_line 92 (codes "NotSmall") [] (pieces ∷ []))
+
+-- which of them answers a first drawing, if one does
+abbrev pub stopped : ℕ → Drawing → Option Answer
+stopped limit d =
+    if nat_lt 0 (length (bad_pieces d)) then Some (not_nice (length (bad_pieces d))) else
+    if nat_lt limit (length (generators d)) then Some (over_limit (limit + 1)) else
+    if nat_lt most_pieces (length (inner_pieces d)) then Some (not_small (length (inner_pieces d))) else None
+
+-- the drawing of words on the book's page joined
+abbrev pub drawing_of : Book → List (List ℕ) → Drawing
+drawing_of book words = tight_drawing (joined_surface (open_book book)).polygon words
+
+-- the answer of `decide` to a first drawing: what stands in place of a certificate, else a certificate
+abbrev pub AnswersDrawing : Book → Option Answer → Answer → Type 0
+AnswersDrawing book (Some other) answer = answer ≡ other
+AnswersDrawing book None answer = Certifies book answer
+
+-- the answer of `decide`: the line of words that are too long, or the answer to their drawing, the book's first one
+abbrev pub AnswersWords : Book → Result (List (List ℕ)) TooLong → Answer → Type 0
+AnswersWords book (Err long) answer = answer ≡ refused_with (long_line long)
+AnswersWords book (Ok words) answer =
+    IsFirstDrawing (open_book book) (joined_surface (open_book book)) (drawing_of book words) × AnswersDrawing book (stopped book.limits.generators (drawing_of book words)) answer
 
 -- the answer of `page`: the words, or the line of those that are too long
 abbrev pub page_answer : Book → Result (List (List ℕ)) TooLong → Answer
@@ -70,11 +111,11 @@ page_answer book (Err long) = refused_with (long_line long)
 -- the answer to a book
 abbrev pub AnswersBuilt : Command → Book → Option (List ℕ) → Answer → Type 0
 AnswersBuilt command book (Some what) answer = answer ≡ refused_with (refused_line 90 (codes "NotBuilt") (what ∷ []) [])
-AnswersBuilt command.Decide book None answer = Certifies book answer
+AnswersBuilt command.Decide book None answer = AnswersWords book (book_words book) answer
 AnswersBuilt command.Page book None answer = answer ≡ page_answer book (book_words book)
 
 abbrev pub AnswersBook : Command → Book → Answer → Type 0
-AnswersBook command book answer = AnswersBuilt command book (not_built command book) answer
+AnswersBook command book answer = AnswersBuilt command book (not_built book) answer
 
 -- the answer to a document, by the first rule that fails and by the book
 abbrev pub AnswersDoc : Command → Option DocRefusal → Option Book → Answer → Type 0
@@ -147,6 +188,18 @@ Finished (Some command.Decide) left now_left written now_written = Decided left 
 Finished (Some command.Page) left now_left written now_written = Paged left now_left written now_written
 Finished None left now_left written now_written = ⊥
 
+-- the command is `decide`, the source was read to its end, and the line that the last drawing of the book of its bytes has more
+-- generators than the book's limit, which it has, was written
+pub record Limited (which : Option Command) (left now_left written now_written : Option (List ℕ)) : Type 0 where
+  pub decides : which ≡ Some command.Decide
+  pub bytes : List ℕ
+  pub gave : Consumes left now_left bytes
+  pub ended : IsAtEnd now_left
+  pub book : Book
+  pub read : book_read bytes ≡ Some book
+  pub over : IsOverLimit book
+  pub wrote : Appends written now_written (limit_line (book.limits.generators + 1))
+
 -- a status with a text of its own that a run ends with today
 abbrev pub has_text : Status → Bool
 has_text status.Done = true
@@ -155,7 +208,7 @@ has_text status.Refused = true
 has_text status.Bad = false
 has_text status.ReadFault = false
 has_text status.WriteFault = false
-has_text status.GeneratorLimit = false
+has_text status.GeneratorLimit = true
 has_text status.MoveBudget = false
 has_text status.NoMemory = false
 
@@ -163,13 +216,31 @@ has_text status.NoMemory = false
 abbrev pub IsFault : Status → Type 0
 IsFault result = (result ≡ status.ReadFault) ⊎ (result ≡ status.WriteFault) ⊎ (result ≡ status.NoMemory)
 
--- the status of the answer to a book
-abbrev pub book_status : Command → Book → Option (List ℕ) → Status
-book_status command book (Some what) = status.Refused
-book_status command.Decide book None = status.Done
-book_status command.Page book None = (page_answer book (book_words book)).status
+-- the status of what stands in place of a certificate, and of a certificate
+abbrev pub drawing_status : Option Answer → Status
+drawing_status (Some other) = other.status
+drawing_status None = status.Done
+
+-- the status of the answer of `decide`
+abbrev pub words_status : Book → Result (List (List ℕ)) TooLong → Status
+words_status book (Err long) = status.Refused
+words_status book (Ok words) = drawing_status (stopped book.limits.generators (drawing_of book words))
+
+-- the status of the answer to a book; with Done no last drawing to which a nice first one leads has too many generators
+abbrev pub HasBookStatus : Command → Book → Option (List ℕ) → Status → Type 0
+HasBookStatus command book (Some what) result = result ≡ status.Refused
+HasBookStatus command.Decide book None result = (result ≡ words_status book (book_words book)) × (result ≡ status.Done → IsOverLimit book → ⊥) × (result ≡ status.GeneratorLimit → IsOverLimit book)
+HasBookStatus command.Page book None result = result ≡ (page_answer book (book_words book)).status
+
+-- the book of bytes that aren't too many
+abbrev pub book_within : List ℕ → Option Book
+book_within bytes = if nat_lt most_bytes (length bytes) then None else book_read bytes
+
+-- the status of the answer to what was read
+abbrev pub HasReadStatus : Command → Option Book → Status → Type 0
+HasReadStatus command None result = result ≡ status.Refused
+HasReadStatus command (Some book) result = HasBookStatus command book (not_built book) result
 
 -- the status of the answer to these bytes
-abbrev pub status_owed : Command → List ℕ → Status
-status_owed command bytes =
-    if nat_lt most_bytes (length bytes) then status.Refused else option_map_or (λ book. book_status command book (not_built command book)) (book_read bytes) status.Refused
+abbrev pub HasStatus : Command → List ℕ → Status → Type 0
+HasStatus command bytes result = HasReadStatus command (book_within bytes) result

@@ -1,6 +1,5 @@
 -- What each step of a run makes of a book.
-use Rattle.std.specs.Prelude.{◌≡◌, ℕ, ◌≤◌, List, [], map, length, All, IfSome}
-use Rattle.obd_base.specs.declared.points.Column.{Column}
+use Rattle.std.specs.Prelude.{◌≡◌, ℕ, ◌<◌, ◌≤◌, List, [], map, length, All, IfSome}
 use Rattle.page_surface.specs.Drawing.{Drawing}
 use Rattle.page_surface.specs.Joining.{joined}
 use Rattle.page_surface.specs.Polygon.{IsPolygon}
@@ -8,6 +7,7 @@ use Rattle.arc_basis.specs.Basis.{joined_polygon}
 use Rattle.curve_paths.specs.Curves.{IsCurve}
 use Rattle.curve_paths.specs.Twists.{exits_of}
 use Rattle.drawing.specs.Points.{contact_generator, generators}
+use Rattle.drawing.specs.declared.finger.Finger.{Finger}
 use Rattle.region_table.specs.Nice.{IsNice}
 use Rattle.hkm_diagram.specs.Domains.{columns}
 use Rattle.mod2_rank.specs.Linear.{IsOutcomeOf}
@@ -48,15 +48,11 @@ pub record AreDrawings (book : Book) (s : Surface) (m : Moved) : Type 0 where
   pub first_is : IsFirstDrawing (open_book book) (shown s) first
   pub moved : IsMoved first m
 
--- columns as the lists of their rows
-abbrev pub rows_of : List Column → List (List ℕ)
-rows_of columns = map (λ column. column.rows) columns
-
--- the number of generators of a drawing, of which there is one at least, and the outcome of its columns
-pub record IsComplexOf (d : Drawing) (complex : Complex) : Type 0 where
+-- the number of generators of a drawing, of which there is one at least and no more than the limit, and the outcome of its columns
+pub record IsComplexOf (d : Drawing) (limit : ℕ) (complex : Complex) : Type 0 where
   pub count : complex.generators ≡ length (generators d)
   pub least : 1 ≤ complex.generators
-  pub most : complex.generators ≤ 256
+  pub within : complex.generators ≤ limit
   pub concludes : IsOutcomeOf complex.generators (columns d) complex.outcome
   pub rank : complex.outcome.rank ≤ complex.generators
 
@@ -72,7 +68,23 @@ pub record AreLastLines (d : Drawing) (lines : LastLines) : Type 0 where
   pub finals : lines.finals ≡ d.strands
   pub points : lines.points ≡ contact_generator d
 
--- the certificate belongs to the book, and takes no finger where the first drawing is nice
+-- the certificate belongs to the book, takes no finger where the first drawing is nice, and has no more generators than the
+-- book's limit
 pub record IsCertificateOf (book : Book) (c : Certificate) : Type 0 where
   pub belongs : BelongsTo (open_book book) c
   pub sparing : IsNice belongs.first → c.fingers ≡ []
+  pub within : c.generators ≤ book.limits.generators
+
+-- the last drawing, to which fingers lead from the book's first one, none where that is nice, has more generators than the
+-- book's limit
+pub record IsOverLimit (book : Book) : Type 0 where
+  pub surface : Shown
+  pub surface_is : IsSurface (open_book book) surface
+  pub first : Drawing
+  pub first_is : IsFirstDrawing (open_book book) surface first
+  pub fingers : List Finger
+  pub few_fingers : length fingers ≤ 20000
+  pub last : Drawing
+  pub last_is : LeadTo first fingers last
+  pub sparing : IsNice first → fingers ≡ []
+  pub over : book.limits.generators < length (generators last)

@@ -1,20 +1,23 @@
 // The certificate of a book, from what the steps make.
-ghost use Rattle.std.specs.Prelude.{◌≡◌, ◌<◌, ◌≤◌, ◌*◌, ◌^◌, pos, ◌-ℤ◌, [], map, length, IfOk};
+ghost use Rattle.std.specs.Prelude.{◌≡◌, ℕ, ◌+◌, ◌<◌, ◌≤◌, ◌*◌, ◌^◌, pos, ◌-ℤ◌, [], map, length, slice_index_or, IfOk};
 ghost use Rattle.obd_base.specs.Lists.{below};
 ghost use Rattle.page_surface.specs.Polygon.{arc_count};
-ghost use Rattle.drawing.specs.Points.{contact_generator, crossings_of};
-ghost use Rattle.obd_doc.specs.Document.{IsBook};
-ghost use Rattle.obd_cli.specs.Opened.{paths_of};
-ghost use Rattle.obd_cli.specs.Steps.{AreDrawings, AreLastLines, ArePageLines, IsCertificateOf, IsComplexOf, IsSurfaceOf};
+ghost use Rattle.drawing.specs.Points.{contact_generator, crossings_of, generators as generators_of};
+ghost use Rattle.region_table.specs.Nice.{IsNice};
+ghost use Rattle.region_table.specs.Table.{IsTableOf};
+ghost use Rattle.witness_check.specs.Belonging.{IsFirstDrawing};
+ghost use Rattle.obd_cli.specs.Opened.{named_twists, open_book, paths_of};
+ghost use Rattle.obd_cli.specs.Steps.{AreDrawings, AreLastLines, ArePageLines, IsCertificateOf, IsComplexOf, IsSurfaceOf, shown};
 
 use crate::complex::{Complex, complex_of};
-use crate::drawn::drawn;
 use crate::moves::{Moved, make_nice, strands_of};
-use crate::surface::{Surface, surface_of};
-use curve_paths::{NamedPath, copied_path, page_names};
+use crate::surface::Surface;
+use curve_paths::{NamedPath, NamedTwist, copied_path, page_names};
+use generator_list::Generators;
 use hkm_diagram::Diagram;
 use obd_base::{ArcNo, Exit, GenNo, Items, Name, NoMemory};
 use obd_doc::{Book, NamedCurve};
+use region_table::Regions;
 use std::alloc::Global;
 use witness_check::Certificate;
 
@@ -30,6 +33,32 @@ fn named_paths(alloc: Global, curves: &[NamedCurve]) -> Result<Items<NamedPath>,
         })?;
     }
     Ok(paths)
+}
+
+// The name of a curve by its number, and no letter where there is none.
+fn curve_name(alloc: Global, curves: &[NamedCurve], number: u32) -> Result<Name, NoMemory>
+    ensures { IfOk result (λ name. name ≡ slice_index_or (map (λ curve. curve.name) curves.now) number []) }
+{
+    let number = number as usize;
+    if number >= curves.len() {
+        return Name::from_str(alloc, "");
+    }
+    Name::from_str(alloc, curves[number].name.as_str())
+}
+
+// The twist word of a book by the names of the curves.
+fn named_twists(alloc: Global, book: &Book) -> Result<Items<NamedTwist>, NoMemory>
+    ensures { IfOk result (λ twists. twists ≡ named_twists book.now) }
+{
+    let curves = book.curves.as_slice();
+    let mut twists = Items::new(alloc);
+    for twist in book.twists.as_slice() {
+        twists.push(NamedTwist {
+            name: curve_name(alloc, curves, twist.curve)?,
+            power: twist.power,
+        })?;
+    }
+    Ok(twists)
 }
 
 // The numbers of the contact points, arc by arc.
@@ -102,13 +131,14 @@ fn certificate_of(
 ) -> Result<Certificate, NoMemory>
     requires surface { IsSurfaceOf book.now surface.now }
     requires slides { book.now.slides ≡ [] }
-    requires twists { book.now.twists ≡ [] }
+    requires limit { book.now.limits.generators ≤ 20000 }
     requires drawings { AreDrawings book.now surface.now moved }
-    requires complex { IsComplexOf moved.last complex }
+    requires complex { IsComplexOf moved.last book.now.limits.generators complex }
     ensures { IfOk result (IsCertificateOf book.now) }
 {
     let page = page_lines(alloc, book, surface)?;
     let last = last_lines(alloc, &moved.last)?;
+    let twists = named_twists(alloc, book)?;
     let Moved {
         strands,
         fingers,
@@ -124,7 +154,7 @@ fn certificate_of(
         polygons: page.polygons,
         curves: page.curves,
         slides: Items::new(alloc),
-        twists: Items::new(alloc),
+        twists,
         seams: page.seams,
         basis: page.basis,
         strands,
@@ -140,18 +170,29 @@ fn certificate_of(
     })
 }
 
-/// The certificate of a book with one polygon, no slide and no twist, and with that polygon's identity drawing. Linear in
-/// the generators, at most 256, and in the text that they make.
-pub(crate) fn certify(alloc: Global, book: &Book) -> Result<Certificate, NoMemory>
-    requires valid { IsBook book.now }
-    requires one { length book.now.page ≡ 1 }
+/// The certificate of a book without slides whose first drawing is nice and has at most 16 pieces that aren't base, with
+/// that drawing, its table of regions and its generators. Its cost is that of `complex_of`, and linear in the text that
+/// it makes.
+pub(crate) fn certify(
+    alloc: Global,
+    book: &Book,
+    surface: &Surface,
+    diagram: Diagram,
+    regions: &Regions,
+    generators: &Generators,
+) -> Result<Certificate, NoMemory>
+    requires surface { IsSurfaceOf book.now surface.now }
     requires slides { book.now.slides ≡ [] }
-    requires twists { book.now.twists ≡ [] }
+    requires limit { book.now.limits.generators ≤ 20000 }
+    requires first { IsFirstDrawing (open_book book.now) (shown surface.now) diagram }
+    requires nice { IsNice diagram }
+    requires table { IsTableOf diagram regions.now }
+    requires generators { generators.now ≡ generators_of diagram }
+    requires within { length generators.now ≤ book.now.limits.generators }
+    requires few { length regions.now.inner ≤ 16 }
     ensures { IfOk result (IsCertificateOf book.now) }
 {
-    let surface = surface_of(alloc, book)?;
-    let diagram = drawn(alloc, book, &surface)?;
+    let complex = complex_of(alloc, &diagram, regions, generators)?;
     let moved = make_nice(alloc, diagram)?;
-    let complex = complex_of(alloc, &moved.last)?;
-    certificate_of(alloc, book, &surface, moved, complex)
+    certificate_of(alloc, book, surface, moved, complex)
 }

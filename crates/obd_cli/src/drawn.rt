@@ -1,25 +1,36 @@
 // The first drawing of a book.
-ghost use Rattle.std.specs.Prelude.{◌≡◌, [], IfOk};
+ghost use Rattle.std.specs.Prelude.{◌≡◌, Ok, Err, IfOk, IfErr};
 ghost use Rattle.arc_basis.specs.Basis.{joined_polygon};
-ghost use Rattle.page_surface.specs.Drawing.{identity};
+ghost use Rattle.page_surface.specs.Drawing.{words};
+ghost use Rattle.curve_paths.specs.declared.twist.TooLong.{TooLong};
+ghost use Rattle.drawing.specs.Tight.{tight_drawing};
 ghost use Rattle.witness_check.specs.Belonging.{IsFirstDrawing};
+ghost use Rattle.obd_doc.specs.Document.{IsBook};
 ghost use Rattle.obd_cli.specs.Opened.{open_book};
 ghost use Rattle.obd_cli.specs.Steps.{IsSurfaceOf, shown};
+ghost use Rattle.obd_cli.specs.Words.{book_words as words_of_book};
 
 use crate::surface::Surface;
-use hkm_diagram::{Diagram, first};
-use obd_base::NoMemory;
+use drawing::Drawing;
+use monodromy::MonodromyRefusal;
 use obd_doc::Book;
 use std::alloc::Global;
 
-/// The diagram of the first drawing of a book without twists, on the book's surface: the identity drawing. Linear in
-/// the sides.
-pub(crate) fn drawn(alloc: Global, book: &Book, surface: &Surface) -> Result<Diagram, NoMemory>
+/// The first drawing of a book on its surface: the images of the arc basis after the book's twist word, drawn tight. Its
+/// cost is that of `monodromy::drawn`.
+pub(crate) fn drawn(
+    alloc: Global,
+    book: &Book,
+    surface: &Surface,
+) -> Result<Drawing, MonodromyRefusal>
+    requires valid { IsBook book.now }
     requires surface { IsSurfaceOf book.now surface.now }
-    requires twists { book.now.twists ≡ [] }
     ensures first { IfOk result (IsFirstDrawing (open_book book.now) (shown surface.now)) }
-    ensures identity { IfOk result (λ diagram. diagram ≡ identity (joined_polygon surface.now.basis)) }
+    ensures words { IfOk result (λ drawing. words_of_book book.now ≡ Ok (words drawing)) }
+    ensures tight { IfOk result (λ drawing. drawing ≡ tight_drawing (joined_polygon surface.now.basis) (words drawing)) }
+    ensures long { IfErr result (λ refusal. (long : TooLong) → refusal ≡ MonodromyRefusal.TooLong long → words_of_book book.now ≡ Err long) }
 {
-    let _ = book;
-    first(alloc, surface.basis.polygon())
+    let polygon = surface.basis.polygon();
+    let curves = surface.curves.as_slice();
+    monodromy::drawn(alloc, polygon, curves, book.twists.as_slice())
 }

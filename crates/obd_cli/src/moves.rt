@@ -1,7 +1,8 @@
 // The finger moves that make a drawing nice.
 ghost use Rattle.std.specs.Prelude.{◌≡◌, ◌<◌, IfOk, OnOk};
-ghost use Rattle.page_surface.specs.Drawing.{IsEmbedded, identity, strand_exits};
+ghost use Rattle.page_surface.specs.Drawing.{IsEmbedded, strand_exits};
 ghost use Rattle.page_surface.specs.Polygon.{arc_count};
+ghost use Rattle.region_table.specs.Nice.{IsNice};
 ghost use Rattle.obd_cli.specs.Steps.{IsMoved};
 
 use drawing::{Drawing, Finger};
@@ -38,9 +39,9 @@ pub(crate) fn strands_of(alloc: Global, drawing: &Drawing) -> Result<Items<Items
     Ok(strands)
 }
 
-/// Makes the identity drawing nice: it is nice as it stands, so no finger is needed.
+/// Takes a drawing that is nice as it stands: no finger is needed.
 pub(crate) fn make_nice(alloc: Global, diagram: Diagram) -> Result<Moved, NoMemory>
-    requires { diagram ≡ identity diagram.polygon }
+    requires { IsNice diagram }
     ensures { IfOk result (IsMoved diagram) }
 {
     Ok(Moved {

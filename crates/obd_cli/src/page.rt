@@ -1,15 +1,18 @@
 // The answer of the command `page`.
-ghost use Rattle.std.specs.Prelude.{◌≡◌, ◌++◌, [], true, length, IfOk, OnOk};
+ghost use Rattle.std.specs.Prelude.{◌≡◌, ◌++◌, [], true, length, Ok, IfOk, OnOk};
+ghost use Rattle.page_surface.specs.Drawing.{words};
 ghost use Rattle.obd_doc.specs.Document.{IsBook};
 ghost use Rattle.obd_cli.specs.Run.{has_text, page_answer, refused_with};
 ghost use Rattle.obd_cli.specs.Steps.{IsSurfaceOf};
 ghost use Rattle.obd_cli.specs.Words.{book_words as words_of_book, lines_of, long_line, words_text};
 
+use crate::drawn::drawn;
 use crate::refused::put_refused;
 use crate::status::{Answer, Status};
 use crate::surface::{Surface, surface_of};
-use crate::words::{Wordless, book_words};
 use curve_paths::TooLong;
+use drawing::Drawing;
+use monodromy::MonodromyRefusal;
 use obd_base::{ArcNo, Items, Name, NoMemory, SideNo, Text};
 use obd_doc::Book;
 use std::alloc::Global;
@@ -46,8 +49,25 @@ fn words_text(
     Ok(text)
 }
 
-// The answer to words that are too long.
-fn too_long(alloc: Global, long: TooLong) -> Result<Answer, NoMemory>
+// The answer that tells the words of a drawing.
+fn worded(
+    alloc: Global,
+    book: &Book,
+    surface: &Surface,
+    drawing: &Drawing,
+) -> Result<Answer, NoMemory>
+    requires { IsSurfaceOf book.now surface.now }
+    ensures { IfOk result (λ answer. answer ≡ page_answer book.now (Ok (words drawing.now))) }
+{
+    let words = drawing.words(alloc)?;
+    Ok(Answer {
+        status: Status::Done,
+        text: words_text(alloc, book, surface, words.as_slice())?,
+    })
+}
+
+/// The answer to words that are too long.
+pub(crate) fn too_long(alloc: Global, long: TooLong) -> Result<Answer, NoMemory>
     ensures { IfOk result (λ answer. answer ≡ refused_with (long_line long)) }
 {
     let mut text = Text::new(alloc);
@@ -68,12 +88,9 @@ pub(crate) fn paged(alloc: Global, book: &Book) -> Result<Answer, NoMemory>
     ensures settled { IfOk result (λ answer. has_text answer.status ≡ true) }
 {
     let surface = surface_of(alloc, book)?;
-    match book_words(alloc, book, &surface) {
-        Ok(words) => Ok(Answer {
-            status: Status::Done,
-            text: words_text(alloc, book, &surface, words.as_slice())?,
-        }),
-        Err(Wordless::TooLong(long)) => too_long(alloc, long),
-        Err(Wordless::NoMemory) => Err(NoMemory),
+    match drawn(alloc, book, &surface) {
+        Ok(drawing) => worded(alloc, book, &surface, &drawing),
+        Err(MonodromyRefusal::TooLong(long)) => too_long(alloc, long),
+        Err(MonodromyRefusal::NoMemory) => Err(NoMemory),
     }
 }

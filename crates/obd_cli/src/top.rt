@@ -1,21 +1,20 @@
 // Words and bytes in, a status and a text out.
-ghost use Rattle.std.specs.Prelude.{◌≡◌, ◌≢◌, ◌⊎◌, ◌<◌, ◌≤◌, ◌^◌, ◌∷◌, [], List, ℕ, length, codes, true, false, map, string_bytes, None, Some, option_map, IfOk, OnOk, IfErr, MatchResult};
+ghost use Rattle.std.specs.Prelude.{◌≡◌, ◌≢◌, ◌⊎◌, ◌+◌, ◌<◌, ◌≤◌, ◌^◌, ◌∷◌, [], List, ℕ, length, codes, true, false, map, string_bytes, None, Some, option_map, IfOk, OnOk, IfErr, MatchResult};
 ghost use Rattle.std.specs.Io.KnownBytes.{Appends};
 ghost use Rattle.obd_base.specs.Causes.{Rose};
 ghost use Rattle.obd_base.specs.Streams.{TookPrefix};
 ghost use Rattle.obd_doc.specs.Document.{IsBook};
 ghost use Rattle.obd_cli.specs.Refused.{doc_line, refused_line};
-ghost use Rattle.obd_cli.specs.Run.{AnswersAll, AnswersBook, AnswersBytes, AnswersLong, Certifies, CutShort, Finished, IsFault, Owes, Told, command_of, has_text, not_built, not_decided, refused_with, status_owed, too_long, usage};
+ghost use Rattle.obd_cli.specs.Run.{AnswersAll, AnswersBook, AnswersBytes, AnswersBuilt, AnswersLong, CutShort, Finished, HasStatus, IsFault, Limited, Owes, Told, command_of, has_text, not_built, refused_with, too_long, usage};
 ghost use Rattle.obd_cli.specs.declared.status.Command.{Command as Which};
 
-use crate::certify::certify;
+use crate::decide::decided;
 use crate::page::paged;
 use crate::refused::{put_doc_refusal, put_refused};
 use crate::status::{Answer, Command, Status};
 use obd_base::{NoMemory, ReadRefusal, Sink, Source, Text, WriteFault, read_all, write_all_of};
 use obd_doc::{Book, DocRefusal, read};
 use std::alloc::Global;
-use witness_check::print;
 
 /// The greatest number of bytes of a document.
 pub const DOCUMENT_LIMIT: usize = 1_048_576;
@@ -86,22 +85,9 @@ fn not_taken(alloc: Global, what: &str) -> Result<Answer, NoMemory>
     })
 }
 
-// What of a book `decide` doesn't take yet.
-fn not_decided(book: &Book) -> Option<&'static str>
-    ensures { option_map (λ what. what.now) result ≡ not_decided Command.Decide book.now }
-{
-    if book.limits.moves != 20_000 || book.limits.generators != 20_000 {
-        return Some("limits");
-    }
-    if !book.twists.is_empty() {
-        return Some("twists");
-    }
-    None
-}
-
-// What of a book a command doesn't take yet.
-fn not_built(command: Command, book: &Book) -> Option<&'static str>
-    ensures { option_map (λ what. what.now) result ≡ not_built command book.now }
+// What of a book no command takes yet.
+fn not_built(book: &Book) -> Option<&'static str>
+    ensures { option_map (λ what. what.now) result ≡ not_built book.now }
 {
     if book.page.polygon_count() > 1 {
         return Some("polygons");
@@ -109,38 +95,33 @@ fn not_built(command: Command, book: &Book) -> Option<&'static str>
     if !book.slides.is_empty() {
         return Some("slides");
     }
-    match command {
-        Command::Decide => not_decided(book),
-        Command::Page => None,
-    }
+    None
 }
 
-// The certificate of a book that is taken.
-fn decided(alloc: Global, book: &Book) -> Result<Answer, NoMemory>
+// The answer to a book that is taken.
+fn answer_taken(alloc: Global, command: Command, book: &Book) -> Result<Answer, NoMemory>
     requires valid { IsBook book.now }
-    requires taken { not_built Command.Decide book.now ≡ None }
-    ensures answered { IfOk result (Certifies book.now) }
-    ensures settled { IfOk result (λ answer. answer.status ≡ Status.Done) }
+    requires taken { not_built book.now ≡ None }
+    requires limit { book.now.limits.generators ≤ 20000 }
+    ensures answered { IfOk result (AnswersBuilt command book.now None) }
+    ensures settled { IfOk result (λ answer. has_text answer.status ≡ true) }
 {
-    let certificate = certify(alloc, book)?;
-    Ok(Answer {
-        status: Status::Done,
-        text: print(alloc, &certificate)?,
-    })
+    match command {
+        Command::Decide => decided(alloc, book),
+        Command::Page => paged(alloc, book),
+    }
 }
 
 // The answer to a book.
 fn answer_to_book(alloc: Global, command: Command, book: &Book) -> Result<Answer, NoMemory>
-    requires { IsBook book.now }
+    requires valid { IsBook book.now }
+    requires limit { book.now.limits.generators ≤ 20000 }
     ensures answered { IfOk result (AnswersBook command book.now) }
     ensures settled { IfOk result (λ answer. has_text answer.status ≡ true) }
 {
-    match not_built(command, book) {
+    match not_built(book) {
         Some(what) => not_taken(alloc, what),
-        None => match command {
-            Command::Decide => decided(alloc, book),
-            Command::Page => paged(alloc, book),
-        },
+        None => answer_taken(alloc, command, book),
     }
 }
 
@@ -239,12 +220,14 @@ fn run_words<S: Source, K: Sink>(
 }
 
 /// One run of the program. The words after the program's own name decide the command, which for now is a single
-/// word. Both commands read a document from the source: `decide` writes the certificate of its open book, and
-/// `page` the seams, the basis and the words of its strands.
+/// word. Both commands read a document from the source: `decide` writes the certificate of its open book, where the
+/// first drawing is nice and has at most 16 pieces that aren't base, or a line that it isn't nice, isn't small, or has more
+/// generators than the book's limit; and `page` writes the seams, the basis and the words of its strands.
 ///
 /// The whole text is built before the first write. Where a device fails, its fault takes the place of the
 /// status whose text was owed; `NoMemory` may come at any step that takes memory, before the first write.
-/// Linear in the bytes that are read, but for the order of the fields of a JSON object.
+/// Linear in the bytes that are read, but for the order of the fields of a JSON object. With `page` the cost is that of
+/// `monodromy::drawn` besides, and with `decide` also that of `columns_plain` and of `eliminate`.
 pub fn run<S: Source, K: Sink>(
     alloc: Global,
     words: &[String],
@@ -254,6 +237,11 @@ pub fn run<S: Source, K: Sink>(
     // The headline: with `decide`, the certificate that was written belongs to the book of the bytes that were read;
     // with `page`, the words that were written are those of that book's strands.
     ensures done { result ≡ Status.Done → Finished (command_of (map string_bytes words.now))
+        (S.left source.old) (S.left source.new) (K.written sink.old) (K.written sink.new) }
+
+    // GeneratorLimit comes with `decide` alone, where the last drawing of the book of the bytes that were read has more
+    // generators than the book's limit.
+    ensures limited { result ≡ Status.GeneratorLimit → Limited (command_of (map string_bytes words.now))
         (S.left source.old) (S.left source.new) (K.written sink.old) (K.written sink.new) }
 
     // Each status with a text: the text that is owed was written, whole.
@@ -273,9 +261,11 @@ pub fn run<S: Source, K: Sink>(
     ensures wrote_well { result ≢ Status.WriteFault → K.faults sink.new ≡ K.faults sink.old }
     ensures unwritten { (result ≡ Status.ReadFault) ⊎ (result ≡ Status.NoMemory) → sink.new ≡ sink.old }
 
-    // For bytes that the source tells, the status is that of the answer to them, but for a fault or want of memory.
+    // For bytes that the source tells, the status is that of the answer to them, but for a fault or want of memory:
+    // with `decide` it goes by the book's words and their drawing; GeneratorLimit only where the last drawing has more
+    // generators than the limit, and Done only where it has no more.
     ensures complete { (bytes : List ℕ) (command : Which) → command_of (map string_bytes words.now) ≡ Some command
-        → S.left source.old ≡ Some bytes → (result ≡ status_owed command bytes) ⊎ IsFault result }
+        → S.left source.old ≡ Some bytes → HasStatus command bytes result ⊎ IsFault result }
     ensures ended { has_text result ≡ true ⊎ IsFault result }
 {
     run_words(alloc, words, source, sink)

@@ -28,8 +28,8 @@ fn read_strands(
     Ok(Drawing::read(alloc, polygon, strands))
 }
 
-// The drawing that is read, or its refusal.
-fn read(
+/// The drawing that is read, or its refusal.
+pub(crate) fn read(
     alloc: Global,
     polygon: &Polygon,
     text: &str,
@@ -123,7 +123,8 @@ fn tightened(alloc: Global, mut drawing: Drawing) -> Result<String, Stop> {
     strands_told(alloc, &drawing)
 }
 
-fn strands_told(alloc: Global, drawing: &Drawing) -> Result<String, Stop> {
+/// The exits of a drawing, strand by strand.
+pub(crate) fn strands_told(alloc: Global, drawing: &Drawing) -> Result<String, Stop> {
     let mut text = String::new(alloc);
     put_strands(&mut text, drawing)?;
     Ok(text)

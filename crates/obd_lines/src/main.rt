@@ -5,24 +5,32 @@
 //! A further row is one line of a file and one of the stored output. It costs no proof.
 #![tactic(auto)]
 
+mod columns;
 mod curves;
 mod drawings;
 mod exits;
+mod generators;
+mod monodromies;
 mod pages;
 mod paths;
+mod regions;
 mod stop;
 mod words;
 
+use columns::columns_told;
 use curves::{curve_told, image_told};
 use drawings::{drawing_told, identity_told, tight_told};
+use generators::generators_told;
+use monodromies::monodromy_told;
 use pages::page_told;
+use regions::regions_told;
 use std::alloc::Global;
 use std::{fs, io};
 use stop::Stop;
 use words::word_told;
 
 /// The files of rows.
-const FILES: [&str; 7] = [
+const FILES: [&str; 11] = [
     "pages",
     "curves",
     "words",
@@ -30,6 +38,10 @@ const FILES: [&str; 7] = [
     "drawings",
     "identities",
     "tight",
+    "monodromies",
+    "regions",
+    "generators",
+    "columns",
 ];
 
 // What is told of what a row of a file gives.
@@ -42,6 +54,10 @@ fn answer(alloc: Global, file: &str, given: &str) -> Result<String, Stop> {
         "drawings" => drawing_told(alloc, given),
         "identities" => identity_told(alloc, given),
         "tight" => tight_told(alloc, given),
+        "monodromies" => monodromy_told(alloc, given),
+        "regions" => regions_told(alloc, given),
+        "generators" => generators_told(alloc, given),
+        "columns" => columns_told(alloc, given),
         _ => Err(Stop::NotRead),
     }
 }

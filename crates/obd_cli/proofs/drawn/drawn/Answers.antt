@@ -1,15 +1,36 @@
-use Rattle.std.proofs.Common.{◌≡◌, ◌∙◌, ap, map, subst, sym}
-use Rattle.std.proofs.lemmas.Result.{IfOk-weaker}
-use Rattle.page_surface.specs.Drawing.{identity}
-use Rattle.witness_check.specs.Belonging.{IsFirstDrawing}
-use Rattle.witness_check.proofs.Laws.{identity_first}
-use Rattle.obd_cli.specs.Opened.{open_book}
+use Rattle.std.proofs.Common.{◌≡◌, ◌∙◌, ap, map}
+use Rattle.std.specs.Prelude.{Err, Ok}
+use Rattle.std.proofs.lemmas.Result.{IfErr-weaker, IfOk-weaker}
+use Rattle.page_surface.specs.Drawing.{words}
+use Rattle.curve_paths.specs.Twists.{exits_of, words_after}
+use Rattle.curve_paths.specs.declared.twist.TooLong.{TooLong}
+use Rattle.drawing.specs.Tight.{tight_drawing}
+use Rattle.monodromy.specs.Drawn.{IsDrawn}
+use Rattle.monodromy.specs.declared.refusal.MonodromyRefusal.TheVariants.{TooLong as Long}
 use Rattle.obd_cli.specs.Steps.{shown}
+use Rattle.obd_cli.specs.Words.{book_words}
+use Rattle.obd_cli.proofs.FirstDrawn.{first_if, words_drawn}
 use Rattle.obd_cli.proofs.drawn.drawn.Goals as goal
 
 pub returns-clause-first : goal.returns-clause-first
 returns-clause-first c =
-    let book = open_book c.args.book.now in
-    let s = shown c.args.surface.now in
-    IfOk-weaker c.first.result (λ d. d ≡ identity c.polygon.result.now) (IsFirstDrawing book s)
-    (λ d is. subst (IsFirstDrawing book s) (sym (is ∙ ap identity c.polygon.ensures.value)) (identity_first book s c.requires.surface.valid (ap (map _) c.requires.twists))) c.first.ensures
+    first_if c.args.book.now c.requires.valid (shown c.args.surface.now) c.requires.surface.joined_so c.polygon-polygon.result.now (map exits_of c.as_slice-curves.result.now) c.as_slice.result.now
+    c.polygon-polygon.ensures.value (ap (map exits_of) c.as_slice-curves.ensures) c.as_slice.ensures c.drawn.result c.drawn.ensures.words c.drawn.ensures.drawn
+
+pub returns-clause-words : goal.returns-clause-words
+returns-clause-words c =
+    IfOk-weaker c.drawn.result (λ d. words_after c.polygon-polygon.result.now (map exits_of c.as_slice-curves.result.now) c.as_slice.result.now ≡ Ok (words d)) (λ d. book_words c.args.book.now ≡ Ok (words d))
+    (λ d after. words_drawn c.args.book.now c.requires.valid (shown c.args.surface.now) c.requires.surface.joined_so c.polygon-polygon.result.now (map exits_of c.as_slice-curves.result.now) c.as_slice.result.now
+    c.polygon-polygon.ensures.value (ap (map exits_of) c.as_slice-curves.ensures) c.as_slice.ensures (Ok (words d)) after) c.drawn.ensures.words
+
+pub returns-clause-tight : goal.returns-clause-tight
+returns-clause-tight c =
+    IfOk-weaker c.drawn.result (λ d. IsDrawn c.polygon-polygon.result.now (words d) d) (λ d. d ≡ tight_drawing (shown c.args.surface.now).polygon (words d))
+    (λ d drawn. drawn.drawn ∙ ap (λ p. tight_drawing p (words d)) c.polygon-polygon.ensures.value) c.drawn.ensures.drawn
+
+pub returns-clause-long : goal.returns-clause-long
+returns-clause-long c =
+    IfErr-weaker c.drawn.result (λ refusal. (long : TooLong) → refusal ≡ Long long → words_after c.polygon-polygon.result.now (map exits_of c.as_slice-curves.result.now) c.as_slice.result.now ≡ Err long)
+    (λ refusal. (long : TooLong) → refusal ≡ Long long → book_words c.args.book.now ≡ Err long)
+    (λ refusal says long is. words_drawn c.args.book.now c.requires.valid (shown c.args.surface.now) c.requires.surface.joined_so c.polygon-polygon.result.now (map exits_of c.as_slice-curves.result.now)
+    c.as_slice.result.now c.polygon-polygon.ensures.value (ap (map exits_of) c.as_slice-curves.ensures) c.as_slice.ensures (Err long) (says long is)) c.drawn.ensures.long

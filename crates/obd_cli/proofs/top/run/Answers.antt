@@ -1,5 +1,6 @@
 use Rattle.std.proofs.Common.{refl}
 use Rattle.obd_cli.proofs.Decides.{completed, finished_from_told, usage_told}
+use Rattle.obd_cli.proofs.Limits.{limited_from_told}
 use Rattle.obd_cli.proofs.top.run.Goals as goal
 
 pub returns-clause-done : goal.returns-clause-done
@@ -10,3 +11,6 @@ returns-clause-complete g c = λ bytes which command tells. completed bytes whic
 
 pub returns-clause-usage : goal.returns-clause-usage
 returns-clause-usage g c = λ usage. usage_told _ _ _ _ _ _ usage (c.run_words.ensures.told (rw usage refl))
+
+pub returns-clause-limited : goal.returns-clause-limited
+returns-clause-limited g c = λ limited. limited_from_told _ _ _ _ _ _ limited (c.run_words.ensures.told (rw limited refl))

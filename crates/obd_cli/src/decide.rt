@@ -1,0 +1,155 @@
+// The answer of the command `decide`.
+ghost use Rattle.std.specs.Prelude.{◌≡◌, ◌≤◌, [], true, length, IfOk};
+ghost use Rattle.drawing.specs.Points.{generators as generators_of};
+ghost use Rattle.region_table.specs.Table.{IsTableOf};
+ghost use Rattle.witness_check.specs.Belonging.{IsFirstDrawing};
+ghost use Rattle.witness_check.specs.Text.{certificate_text};
+ghost use Rattle.obd_doc.specs.Document.{IsBook};
+ghost use Rattle.obd_cli.specs.Opened.{open_book};
+ghost use Rattle.obd_cli.specs.Run.{AnswersDrawing, AnswersWords, bad_pieces, has_text, not_nice, not_small, over_limit, stopped};
+ghost use Rattle.obd_cli.specs.Steps.{IsSurfaceOf, shown};
+ghost use Rattle.obd_cli.specs.Words.{book_words as words_of_book};
+
+use crate::certify::certify;
+use crate::drawn::drawn;
+use crate::page::too_long;
+use crate::pieces::bad_count;
+use crate::refused::put_refused;
+use crate::status::{Answer, Status};
+use crate::surface::{Surface, surface_of};
+use drawing::Drawing;
+use generator_list::{Generators, ListRefusal, list};
+use hkm_diagram::Diagram;
+use monodromy::MonodromyRefusal;
+use obd_base::{NoMemory, Text};
+use obd_doc::Book;
+use region_table::Regions;
+use std::alloc::Global;
+use witness_check::{Certificate, print, put_line};
+
+const MOST_PIECES: usize = 16;
+
+// The answer to a book whose first drawing has so many bad pieces.
+fn not_nice(alloc: Global, bad: u64) -> Result<Answer, NoMemory>
+    ensures { IfOk result (λ answer. answer ≡ not_nice bad) }
+{
+    let mut text = Text::new(alloc);
+    put_refused(&mut text, 91, "NotNice", &[], &[bad])?;
+    Ok(Answer {
+        status: Status::Refused,
+        text,
+    })
+}
+
+// The answer to a book whose last drawing has more generators than its limit, by the limit and one.
+fn over_limit(alloc: Global, over: u32) -> Result<Answer, NoMemory>
+    ensures { IfOk result (λ answer. answer ≡ over_limit over) }
+{
+    let mut text = Text::new(alloc);
+    put_line(&mut text, "generator-limit", &[over])?;
+    Ok(Answer {
+        status: Status::GeneratorLimit,
+        text,
+    })
+}
+
+// The answer to a book whose last drawing has so many pieces that aren't base.
+fn not_small(alloc: Global, pieces: u64) -> Result<Answer, NoMemory>
+    ensures { IfOk result (λ answer. answer ≡ not_small pieces) }
+{
+    let mut text = Text::new(alloc);
+    put_refused(&mut text, 92, "NotSmall", &[], &[pieces])?;
+    Ok(Answer {
+        status: Status::Refused,
+        text,
+    })
+}
+
+// The answer with a certificate.
+fn certified(alloc: Global, certificate: &Certificate) -> Result<Answer, NoMemory>
+    ensures { IfOk result (λ answer. answer ≡ record { status = Status.Done; text = certificate_text certificate.now }) }
+{
+    Ok(Answer {
+        status: Status::Done,
+        text: print(alloc, certificate)?,
+    })
+}
+
+// The answer to a first drawing that is nice and has no more generators than the book's limit.
+fn listed(
+    alloc: Global,
+    book: &Book,
+    surface: &Surface,
+    diagram: Diagram,
+    regions: &Regions,
+    generators: &Generators,
+) -> Result<Answer, NoMemory>
+    requires surface { IsSurfaceOf book.now surface.now }
+    requires slides { book.now.slides ≡ [] }
+    requires limit { book.now.limits.generators ≤ 20000 }
+    requires first { IsFirstDrawing (open_book book.now) (shown surface.now) diagram }
+    requires good { length (bad_pieces diagram) ≡ 0 }
+    requires table { IsTableOf diagram regions.now }
+    requires generators { generators.now ≡ generators_of diagram }
+    requires within { length generators.now ≤ book.now.limits.generators }
+    ensures { IfOk result (AnswersDrawing book.now (stopped book.now.limits.generators diagram)) }
+{
+    let pieces = regions.inner().len();
+    if pieces > MOST_PIECES {
+        return not_small(alloc, pieces as u64);
+    }
+    let certificate = certify(alloc, book, surface, diagram, regions, generators)?;
+    certified(alloc, &certificate)
+}
+
+// The answer to a first drawing.
+fn answer_to_drawing(
+    alloc: Global,
+    book: &Book,
+    surface: &Surface,
+    drawing: Drawing,
+) -> Result<Answer, NoMemory>
+    requires surface { IsSurfaceOf book.now surface.now }
+    requires slides { book.now.slides ≡ [] }
+    requires limit { book.now.limits.generators ≤ 20000 }
+    requires first { IsFirstDrawing (open_book book.now) (shown surface.now) drawing }
+    ensures { IfOk result (AnswersDrawing book.now (stopped book.now.limits.generators drawing)) }
+{
+    let regions = Regions::of(alloc, &drawing)?;
+    let bad = bad_count(&regions);
+    if bad > 0 {
+        return not_nice(alloc, bad);
+    }
+    match list(alloc, &drawing, book.limits.generators) {
+        Ok(generators) => listed(
+            alloc,
+            book,
+            surface,
+            Diagram::of(drawing),
+            &regions,
+            &generators,
+        ),
+        Err(ListRefusal::GeneratorLimit { over }) => over_limit(alloc, over),
+        Err(ListRefusal::NoMemory) => Err(NoMemory),
+    }
+}
+
+/// The answer of `decide` to a book with one polygon and no slide: its certificate, where the first drawing is nice, has
+/// no more generators than the book's limit and at most 16 pieces that aren't base; else the line of the first of
+/// these that fails, or before them TooLong as for `page`. The cost is that of `monodromy::drawn`, of `Regions::of`,
+/// of `list` and of `columns_plain`.
+pub(crate) fn decided(alloc: Global, book: &Book) -> Result<Answer, NoMemory>
+    requires valid { IsBook book.now }
+    requires one { length book.now.page ≡ 1 }
+    requires slides { book.now.slides ≡ [] }
+    requires limit { book.now.limits.generators ≤ 20000 }
+    ensures answered { IfOk result (AnswersWords book.now (words_of_book book.now)) }
+    ensures settled { IfOk result (λ answer. has_text answer.status ≡ true) }
+{
+    let surface = surface_of(alloc, book)?;
+    match drawn(alloc, book, &surface) {
+        Ok(drawing) => answer_to_drawing(alloc, book, &surface, drawing),
+        Err(MonodromyRefusal::TooLong(long)) => too_long(alloc, long),
+        Err(MonodromyRefusal::NoMemory) => Err(NoMemory),
+    }
+}
