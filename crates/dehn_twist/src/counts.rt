@@ -13,7 +13,7 @@ use std::alloc::Global;
 
 // The exits of each strand.
 pub(crate) fn strand_rows(alloc: Global, drawing: &Drawing) -> Result<Vec<Items<Exit>>, NoMemory>
-    ensures { IfOk result (λ rows. rows.items ≡ drawing.now.strands) }
+    ensures { IfOk result (λ rows. rows.items ≡ drawing.now.drawing.strands) }
 {
     let mut rows = Vec::new(alloc);
     for strand in 0..drawing.polygon().sides() / 2 {
@@ -25,7 +25,7 @@ pub(crate) fn strand_rows(alloc: Global, drawing: &Drawing) -> Result<Vec<Items<
 
 // How many points of strands each side has.
 pub(crate) fn point_counts(alloc: Global, drawing: &Drawing) -> Result<Vec<u32>, NoMemory>
-    ensures { IfOk result (λ points. points.items ≡ map (points_on drawing.now) (below (sides drawing.now.polygon))) }
+    ensures { IfOk result (λ points. points.items ≡ map (points_on drawing.now.drawing) (below (sides drawing.now.drawing.polygon))) }
 {
     let mut points = Vec::new(alloc);
     for side in 0..drawing.polygon().sides() {

@@ -146,9 +146,9 @@ impl Tables {
 impl Meetings {
     // Linear in the exits and sides, times the curve's exits.
     pub(crate) fn of(alloc: Global, drawing: &Drawing, curve: &Curve) -> Result<Meetings, NoMemory>
-        requires curve { IsCurve drawing.now.polygon curve.now }
-        requires few { length (all_exits drawing.now) ≤ 4000 }
-        ensures { IfOk result (λ meetings. meetings ≡ record { drawing = drawing.now; curve = curve.now }) }
+        requires curve { IsCurve drawing.now.drawing.polygon curve.now }
+        requires few { length (all_exits drawing.now.drawing) ≤ 4000 }
+        ensures { IfOk result (λ meetings. meetings ≡ record { drawing = drawing.now.drawing; curve = curve.now }) }
     {
         let merged = Merged::of(alloc, drawing, curve)?;
         let tables = Tables::of(alloc, &merged)?;

@@ -52,9 +52,9 @@ impl Model for Merged {
 impl Merged {
     // Linear in the exits, and in the sides times the curve's exits.
     pub(crate) fn of(alloc: Global, drawing: &Drawing, curve: &Curve) -> Result<Merged, NoMemory>
-        requires curve { IsCurve drawing.now.polygon curve.now }
-        requires few { length (all_exits drawing.now) ≤ 4000 }
-        ensures { IfOk result (λ merged. merged ≡ record { drawing = drawing.now; curve = curve.now }) }
+        requires curve { IsCurve drawing.now.drawing.polygon curve.now }
+        requires few { length (all_exits drawing.now.drawing) ≤ 4000 }
+        ensures { IfOk result (λ merged. merged ≡ record { drawing = drawing.now.drawing; curve = curve.now }) }
     {
         let _ = (drawing.points(), drawing.polygon().sides());
         let polygon = drawing.polygon().copy()?;

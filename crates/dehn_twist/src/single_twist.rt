@@ -15,9 +15,9 @@ use std::alloc::Global;
 
 // The words of the strands.
 fn words_of(alloc: Global, drawing: &Drawing) -> Result<Items<Items<SideNo>>, NoMemory>
-    requires { length (all_exits drawing.now) ≤ 4000 }
-    ensures value { IfOk result (λ now. now ≡ words drawing.now) }
-    ensures words { IfOk result (λ now. AreWords drawing.now.polygon now) }
+    requires { length (all_exits drawing.now.drawing) ≤ 4000 }
+    ensures value { IfOk result (λ now. now ≡ words drawing.now.drawing) }
+    ensures words { IfOk result (λ now. AreWords drawing.now.drawing.polygon now) }
 {
     let _ = (drawing.points(), drawing.polygon().sides());
     drawing.words(alloc)
@@ -40,11 +40,11 @@ fn check_letters(
     curve: &Curve,
     sign: Sign,
 ) -> Result<(), TwistRefusal>
-    requires curve { IsCurve drawing.now.polygon curve.now }
-    requires few { length (all_exits drawing.now) ≤ 4000 }
-    ensures few { OnOk result (limited (twisted drawing.now.polygon curve.now sign (words drawing.now)) ≡ Ok (twisted drawing.now.polygon curve.now sign (words drawing.now))) }
+    requires curve { IsCurve drawing.now.drawing.polygon curve.now }
+    requires few { length (all_exits drawing.now.drawing) ≤ 4000 }
+    ensures few { OnOk result (limited (twisted drawing.now.drawing.polygon curve.now sign (words drawing.now.drawing)) ≡ Ok (twisted drawing.now.drawing.polygon curve.now sign (words drawing.now.drawing))) }
     ensures long { IfErr result (λ refusal. (count : ℕ) → refusal ≡ TwistRefusal.TooLong count
-        → limited (twisted drawing.now.polygon curve.now sign (words drawing.now)) ≡ Err count) }
+        → limited (twisted drawing.now.drawing.polygon curve.now sign (words drawing.now.drawing)) ≡ Err count) }
 {
     let _ = curve.exits().len();
     let words = words_of(alloc, drawing)?;
@@ -54,10 +54,10 @@ fn check_letters(
 
 // The drawing after the twist.
 fn twisted(alloc: Global, drawing: &Drawing, curve: &Curve, sign: Sign) -> Result<Drawing, NoMemory>
-    requires curve { IsCurve drawing.now.polygon curve.now }
-    requires few { length (all_exits drawing.now) ≤ 4000 }
-    ensures drawing { IfOk result (λ now. now ≡ twisted_drawing drawing.now curve.now sign) }
-    ensures tight { IfOk result IsTight }
+    requires curve { IsCurve drawing.now.drawing.polygon curve.now }
+    requires few { length (all_exits drawing.now.drawing) ≤ 4000 }
+    ensures drawing { IfOk result (λ now. now.drawing ≡ twisted_drawing drawing.now.drawing curve.now sign) }
+    ensures tight { IfOk result (λ now. IsTight now.drawing) }
 {
     let _ = (
         drawing.points(),
@@ -87,15 +87,15 @@ pub fn twist(
     curve: &Curve,
     sign: Sign,
 ) -> Result<(), TwistRefusal>
-    requires curve { IsCurve drawing.old.polygon curve.now }
-    requires few { length (all_exits drawing.old) ≤ 4000 }
-    ensures drawing { OnOk result (drawing.new ≡ twisted_drawing drawing.old curve.now sign) }
-    ensures turned { OnOk result (limited (twisted drawing.old.polygon curve.now sign (words drawing.old)) ≡ Ok (words drawing.new)) }
-    ensures few { OnOk result (length (all_exits drawing.new) ≤ 4000) }
-    ensures tight { OnOk result (IsTight drawing.new) }
+    requires curve { IsCurve drawing.old.drawing.polygon curve.now }
+    requires few { length (all_exits drawing.old.drawing) ≤ 4000 }
+    ensures drawing { OnOk result (drawing.new.drawing ≡ twisted_drawing drawing.old.drawing curve.now sign) }
+    ensures turned { OnOk result (limited (twisted drawing.old.drawing.polygon curve.now sign (words drawing.old.drawing)) ≡ Ok (words drawing.new.drawing)) }
+    ensures few { OnOk result (length (all_exits drawing.new.drawing) ≤ 4000) }
+    ensures tight { OnOk result (IsTight drawing.new.drawing) }
 
     ensures long { IfErr result (λ refusal. (count : ℕ) → refusal ≡ TwistRefusal.TooLong count
-        → limited (twisted drawing.old.polygon curve.now sign (words drawing.old)) ≡ Err count) }
+        → limited (twisted drawing.old.drawing.polygon curve.now sign (words drawing.old.drawing)) ≡ Err count) }
     ensures refused { OnErr result (drawing.new ≡ drawing.old) }
 {
     check_letters(alloc, drawing, curve, sign)?;

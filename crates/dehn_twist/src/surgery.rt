@@ -113,9 +113,9 @@ pub(crate) fn surgery_of(
     curve: &Curve,
     sign: Sign,
 ) -> Result<Vec<Items<Exit>>, NoMemory>
-    requires curve { IsCurve drawing.now.polygon curve.now }
-    requires few { length (all_exits drawing.now) ≤ 4000 }
-    ensures { IfOk result (λ strands. strands.items ≡ (surgery drawing.now curve.now sign).strands) }
+    requires curve { IsCurve drawing.now.drawing.polygon curve.now }
+    requires few { length (all_exits drawing.now.drawing) ≤ 4000 }
+    ensures { IfOk result (λ strands. strands.items ≡ (surgery drawing.now.drawing curve.now sign).strands) }
 {
     let meetings = Meetings::of(alloc, drawing, curve)?;
     strand_rows(alloc, &meetings, sign)

@@ -1,8 +1,7 @@
 -- What is read of a drawing that is kept.
-use Rattle.std.proofs.Common.{◌≡◌, ℕ, zero, suc, ◌+◌, ◌<◌, ◌≤◌, ◌^◌, Bool, List, [], ◌∷◌, length, get_or, take, ◌∙◌, ap, subst, arith}
+use Rattle.std.proofs.Common.{◌≡◌, ℕ, zero, suc, ◌+◌, ◌<◌, ◌≤◌, ◌^◌, Bool, List, [], ◌∷◌, length, get_or, ◌∙◌, ap, subst, arith}
 use Rattle.std.specs.List.{flat_map}
 use Rattle.std.proofs.lemmas.List.{get_or_read, length-append}
-use Rattle.std.proofs.lemmas.List.Folds.{length-flat_map-take}
 use Rattle.obd_base.specs.declared.points.Exit.{Exit}
 use Rattle.drawing.specs.Pieces.{span_count}
 use Rattle.page_surface.specs.Drawing.{Drawing, offset, points_on, strand_exits}
@@ -16,15 +15,10 @@ row_within [] i = omega arith
 row_within (r ∷ rows) zero = omega (arith, length-append r (flat_map (λ s. s) rows))
 row_within (r ∷ rows) (suc i) = omega (arith, length-append r (flat_map (λ s. s) rows), row_within rows i)
 
--- the rows so far and one row more are no longer than all of them
-pub row_adds : {X : Type 0} (rows : List (List X)) (i : ℕ) (row : List X) → i < length rows → row ≡ get_or rows i row
-    → length (flat_map (λ s. s) (take i rows)) + length row ≤ length (flat_map (λ s. s) rows)
-row_adds rows i row l is = let e = ap length is in omega (arith, length-flat_map-take (λ s. s) rows i row l, e)
-
-module _ (made d : Drawing) (seen : made ≡ d) (points : ℕ) (table : List ℕ) (gone : List Bool) (places : List ℕ) (kept : IsKept made points table gone places) where
+module _ (made d : Drawing) (seen : made ≡ d) (room points : ℕ) (table : List ℕ) (spare : ℕ) (gone : List Bool) (places : List ℕ) (kept : IsKept made room points table spare gone places) where
   -- it is kept as the drawing that contracts see
-  pub seen_kept : IsKept d points table gone places
-  seen_kept = subst (λ (x : Drawing). IsKept x points table gone places) seen kept
+  pub seen_kept : IsKept d room points table spare gone places
+  seen_kept = subst (λ (x : Drawing). IsKept x room points table spare gone places) seen kept
 
   -- what is read at a point's number is its strand
   pub strand_read : (k j n x : ℕ) → k < sides d.polygon → j < points_on d k → n ≡ offset made k + j → n + 1 < span_count made → x ≡ get_or table n x → x ≡ strand_at d k j
@@ -34,5 +28,5 @@ module _ (made d : Drawing) (seen : made ≡ d) (points : ℕ) (table : List ℕ
       ∙ (ap (λ (i : ℕ). get_or table i 0) (e ∙ ap (λ (o : ℕ). o + j) same) ∙ seen_kept.strands_are.each k j l lj)
 
 -- the exits of a strand can be counted
-pub exits_fit : (d : Drawing) (points : ℕ) (table : List ℕ) (gone : List Bool) (places : List ℕ) (i : ℕ) (exits : List Exit) → IsKept d points table gone places → exits ≡ strand_exits d i → length exits < 2 ^ 28
-exits_fit d points table gone places i exits kept is = let e = ap length is in omega (arith, kept.few, row_within d.strands i, e)
+pub exits_fit : (d : Drawing) (room points : ℕ) (table : List ℕ) (spare : ℕ) (gone : List Bool) (places : List ℕ) (i : ℕ) (exits : List Exit) → IsKept d room points table spare gone places → exits ≡ strand_exits d i → length exits < 2 ^ 28
+exits_fit d room points table spare gone places i exits kept is = let e = ap length is in omega (arith, kept.few, row_within d.strands i, e)

@@ -1,5 +1,6 @@
 -- A drawing without the points that are gone, as it is laid out from the tables.
 use Rattle.std.proofs.Common.{◌≡◌, ℕ, suc, ◌+◌, ◌-◌, ◌<◌, ◌≤◌, ◌^◌, Bool, true, false, List, [], ◌∷◌, ◌++◌, drop, get_or, length, map, take, refl, sym, ◌∙◌, ap, ap₂, subst, arith, le_refl, inl, inr}
+use Rattle.std.specs.Prelude.{Vec}
 use Rattle.std.proofs.lemmas.Bool.{cases_Bool}
 use Rattle.obd_base.specs.Lists.{Mem, below}
 use Rattle.obd_base.specs.declared.points.Exit.{Exit}
@@ -9,6 +10,7 @@ use Rattle.page_surface.specs.Drawing.{Drawing, IsEmbedded, all_exits, exit, off
 use Rattle.page_surface.specs.Polygon.{Polygon, sides}
 use Rattle.drawing.specs.Layout.{IsLaidOut, IsWritten, drawn, offsets_of}
 use Rattle.drawing.specs.Pieces.{span_count}
+use Rattle.drawing.specs.Room.{rows}
 use Rattle.drawing.specs.ThinTables.{AreNumbered, IsKnown, is_gone, moved_offsets, number_of, points_left, thinned_by}
 use Rattle.drawing.specs.Thinned.{IsAlike, places_kept, thinned, thinned_exits}
 use Rattle.drawing.proofs.Ends.{place_in, side_in}
@@ -146,23 +148,18 @@ module _ (p : Polygon) (strands : List (List Exit)) (d : Drawing) (seen : drawn 
             offsets_are = moved ∙ (ap (moved_offsets places) behind ∙ offsets_thinned);
           })
 
-      -- the same of what the code writes back
-      pub laid_written : (new shown : List (List Exit)) (starts then now : List ℕ) (rows_size starts_size : ℕ) → shown ≡ strands → starts ≡ offsets
-          → new ≡ map (thinned_by starts gone places) shown → now ≡ moved_offsets places then → then ≡ offsets
-          → length shown ≡ rows_size → length new ≡ length shown → length then ≡ starts_size → length now ≡ length then
-          → IsLaidOut (drawn p (take rows_size (new ++ drop (length new) strands))) (take starts_size (now ++ drop (length now) offsets))
-      laid_written new shown starts then now rows_size starts_size rows table made moved behind a b e f =
-          let es = ap length rows in
-          let eo = ap length behind in
-          let rows_back = written_back rows_size strands new (omega (arith, a, b)) (omega (arith, a, es)) in
-          let starts_back = written_back starts_size offsets now (omega (arith, e, f)) (omega (arith, e, eo)) in
-          rw (rows_back, starts_back) (laid_thinned new shown starts then now rows table made moved behind)
+      module _ {A : Type 0} (kept new shown : List (Vec Exit A)) (are : rows kept ≡ strands) (starts : List ℕ) (rows_size : ℕ) (same : shown ≡ kept) (table : starts ≡ offsets)
+          (made : rows new ≡ map (thinned_by starts gone places) (rows shown)) (a : length shown ≡ rows_size) (b : length new ≡ length shown) where
+        back : take rows_size (new ++ drop (length new) kept) ≡ new
+        back = written_back rows_size kept new (omega (arith, a, b)) (omega (arith, a, ap length same))
 
-      -- and of what contracts see of it
-      pub view_written : (new shown : List (List Exit)) (starts : List ℕ) (rows_size : ℕ) → shown ≡ strands → starts ≡ offsets
-          → new ≡ map (thinned_by starts gone places) shown → length shown ≡ rows_size → length new ≡ length shown
-          → drawn p (take rows_size (new ++ drop (length new) strands)) ≡ thinned d (is_gone gone)
-      view_written new shown starts rows_size rows table made a b =
-          let es = ap length rows in
-          let rows_back = written_back rows_size strands new (omega (arith, a, b)) (omega (arith, a, es)) in
-          rw rows_back (written_thinned new shown starts rows table made)
+        -- the same of what the code writes back
+        pub laid_written : (then now : List ℕ) (starts_size : ℕ) → now ≡ moved_offsets places then → then ≡ offsets → length then ≡ starts_size → length now ≡ length then
+            → IsLaidOut (drawn p (rows (take rows_size (new ++ drop (length new) kept)))) (take starts_size (now ++ drop (length now) offsets))
+        laid_written then now starts_size moved behind e f =
+            let starts_back = written_back starts_size offsets now (omega (arith, e, f)) (omega (arith, e, ap length behind)) in
+            rw (back, starts_back) (laid_thinned (rows new) (rows shown) starts then now (ap rows same ∙ are) table made moved behind)
+
+        -- and of what contracts see of it
+        pub view_written : drawn p (rows (take rows_size (new ++ drop (length new) kept))) ≡ thinned d (is_gone gone)
+        view_written = rw back (written_thinned (rows new) (rows shown) starts (ap rows same ∙ are) table made)

@@ -1,13 +1,12 @@
-mod Boundary
+pub mod Boundary
 pub mod ChordTree
-mod CutAlways
-mod Diagram
-mod Ends
+pub mod CutAlways
+pub mod Diagram
+pub mod Ends
 pub mod Examples
 pub mod Filled
 pub mod FingerExamples
 pub mod FingerLaws
-mod FingerStrands
 pub mod fingers
 pub mod Generators
 mod Hits
@@ -15,6 +14,7 @@ pub mod IdentityEmbedded
 pub mod IdentityLaws
 mod IdentityTables
 mod KeptTables
+mod LaidPush
 mod LaidThin
 mod LinkTables
 pub mod Laws
@@ -22,12 +22,15 @@ mod LayoutTables
 pub mod Lists
 pub mod Mates
 pub mod Moved
-mod Orbits
-mod PieceCount
+pub mod Orbits
+pub mod PieceCount
 mod PieceTrees
 pub mod Placed
 mod PlaceTables
-mod RoundPiece
+mod PushKept
+mod PushTables
+mod RoomTables
+pub mod RoundPiece
 pub mod SamePiece
 mod SpanTests
 pub mod Spots

@@ -104,7 +104,7 @@ module _ (d : Drawing) where
 
 module _ (d : Drawing) (ok : IsEmbedded d) where
   -- a polygon has a side, so there is a span
-  some_span : 0 < span_count d
+  pub some_span : 0 < span_count d
   some_span = omega (arith, offset_rises d 0 (sides d.polygon) ok.polygon.not_empty)
 
   -- 0, and the span after the lesser end of each chord

@@ -85,7 +85,7 @@ two_ends c x y u v (inr (p, q)) (inl (r, s)) ne = sym r ∙ q
 two_ends c x y u v (inr (p, q)) (inr (r, s)) ne = absurd (ne (sym p ∙ r))
 
 -- in a boundary each chord leads on from its segment
-leads_from : (ps : List Stretch) (last : ℕ) → InTurn ps last → (p : Stretch) → Mem p ps → (next : ℕ) × Leads p.chord p.segment next
+pub leads_from : (ps : List Stretch) (last : ℕ) → InTurn ps last → (p : Stretch) → Mem p ps → (next : ℕ) × Leads p.chord p.segment next
 leads_from [] last h p m = absurd m
 leads_from (q ∷ ps) last h p (inl e) = (first_segment ps last, subst (λ (k : Stretch). Leads k.chord k.segment (first_segment ps last)) (sym e) h.0)
 leads_from (q ∷ ps) last h p (inr m) = leads_from ps last h.1 p m
@@ -101,7 +101,7 @@ leads_on c s x t (inr (p, q)) e = inr (p, ap suc q ∙ e)
 
 module _ (d : Drawing) (ok : IsEmbedded d) where
   -- a piece with a gap is base
-  base_gap : (s k : ℕ) → k < sides d.polygon → same_piece (chords d) s (gap d k) ≡ true → is_base d s ≡ true
+  pub base_gap : (s k : ℕ) → k < sides d.polygon → same_piece (chords d) s (gap d k) ≡ true → is_base d s ≡ true
   base_gap s k l h =
       let e : get_or (gaps d) k 0 ≡ gap d k = get_or-map-range_with_len (gap d) 0 (sides d.polygon) k k 0 l (zero-add k) in
       list_any_at (same_piece (chords d) s) (gaps d) k 0 (rw length-map-range_with_len l) (rw e h)

@@ -9,5 +9,6 @@ pub mod NewPlaces
 pub mod NewSpots
 pub mod OneEffect
 pub mod Premise
+pub mod Replayed
 pub mod Shift
 pub mod Words

@@ -44,6 +44,10 @@ is_legal d f =
     && (nat_le f.segment (points_on d f.side)
     && borders d (chord_at d f.strand f.chord) (spot d (exit f.side f.segment)))))
 
+-- the segment that is glued to the finger's, by its side and its place there
+abbrev pub glued_to : Drawing → Finger → Exit
+glued_to d f = exit (partner d.polygon f.side) (points_on d f.side - f.segment)
+
 -- where an old point of a side stands after two new ones at places j and j + 1 of the finger's side
 abbrev pub carried : Drawing → Finger → Exit → Exit
 carried d f e =
@@ -79,6 +83,19 @@ pushed d f = cond (is_embedded (with_letters d f 0)) (with_letters d f 0) (with_
 abbrev pub replayed : Drawing → List Finger → Drawing
 replayed d [] = d
 replayed d (f ∷ fs) = replayed (pushed d f) fs
+
+-- each finger is legal in the drawing that the ones before it leave
+abbrev pub AllLegal : Drawing → List Finger → Type 0
+AllLegal d [] = Unit {0}
+AllLegal d (f ∷ fs) = IsLegal d f × AllLegal (pushed d f) fs
+
+-- finger n, counted from 0, is the first that isn't legal in the drawing that the ones before it leave
+pub record IsFirstIllegal (d : Drawing) (fs : List Finger) (n : ℕ) : Type 0 where
+  pub finger : Finger
+  pub there : n < length fs
+  pub stands_there : finger ≡ slice_index_or fs n finger
+  pub legal_before : AllLegal d (take n fs)
+  pub illegal : ¬ (IsLegal (replayed d (take n fs)) finger)
 
 -- the spans into which the new points are put: the finger's segment,
 abbrev pub entered : Drawing → Finger → ℕ

@@ -8,7 +8,9 @@ pub mod LeftTurns
 pub mod Links
 pub mod Pieces
 pub mod Points
+pub mod PushTables
 pub mod Reading
+pub mod Room
 pub mod Round
 pub mod Strands
 pub mod Sweep

@@ -40,11 +40,11 @@ impl Chord {
 
 // The chord between two places.
 pub(crate) fn chord_between(layout: &Layout, from: Exit, to: Exit) -> Chord
-    requires from_side { from.side < sides layout.now.polygon }
-    requires from_place { from.place ≤ points_on layout.now from.side }
-    requires to_side { to.side < sides layout.now.polygon }
-    requires to_place { to.place ≤ points_on layout.now to.side }
-    ensures { result ≡ record { from = spot layout.now from; to = spot layout.now to } }
+    requires from_side { from.side < sides layout.now.drawing.polygon }
+    requires from_place { from.place ≤ points_on layout.now.drawing from.side }
+    requires to_side { to.side < sides layout.now.drawing.polygon }
+    requires to_place { to.place ≤ points_on layout.now.drawing to.side }
+    ensures { result ≡ record { from = spot layout.now.drawing from; to = spot layout.now.drawing to } }
 {
     Chord {
         from: layout.spot(from),
@@ -54,9 +54,9 @@ pub(crate) fn chord_between(layout: &Layout, from: Exit, to: Exit) -> Chord
 
 // Puts the chords of a strand last.
 fn push_chords(layout: &Layout, strand: StrandNo, chords: &mut Vec<Chord>) -> Result<(), NoMemory>
-    requires placed { IsPlaced layout.now }
-    requires strand { strand < arc_count layout.now.polygon }
-    ensures { OnOk result (chords.new.items ≡ chords.old.items ++ strand_chords layout.now strand) }
+    requires placed { IsPlaced layout.now.drawing }
+    requires strand { strand < arc_count layout.now.drawing.polygon }
+    ensures { OnOk result (chords.new.items ≡ chords.old.items ++ strand_chords layout.now.drawing strand) }
 {
     let polygon = layout.polygon();
     let first_side = polygon.first_side(ArcNo::new(strand.number()));
@@ -71,8 +71,8 @@ fn push_chords(layout: &Layout, strand: StrandNo, chords: &mut Vec<Chord>) -> Re
 
 // The chords of all strands. Linear in the exits and sides.
 fn all_chords(alloc: Global, layout: &Layout) -> Result<Vec<Chord>, NoMemory>
-    requires { IsPlaced layout.now }
-    ensures { IfOk result (λ all. all.items ≡ chords layout.now) }
+    requires { IsPlaced layout.now.drawing }
+    ensures { IfOk result (λ all. all.items ≡ chords layout.now.drawing) }
 {
     let mut all = Vec::new(alloc);
     for strand in 0..layout.polygon().sides() / 2 {
@@ -130,8 +130,8 @@ fn is_swept(alloc: Global, mates: &[u32]) -> Result<bool, NoMemory>
 
 // Whether no two chords cross: one pass over the place order. Linear in the exits and sides.
 pub(crate) fn is_uncrossed(alloc: Global, layout: &Layout) -> Result<bool, NoMemory>
-    requires { IsPlaced layout.now }
-    ensures { IfOk result (λ uncrossed. uncrossed ≡ no_two_cross (chords layout.now)) }
+    requires { IsPlaced layout.now.drawing }
+    ensures { IfOk result (λ uncrossed. uncrossed ≡ no_two_cross (chords layout.now.drawing)) }
 {
     let chords = all_chords(alloc, layout)?;
     let mates = mates(alloc, &chords, layout.span_count())?;

@@ -4,18 +4,19 @@ ghost use Rattle.std.specs.List.{flat_map, list_all, sum_by};
 ghost use Rattle.obd_base.specs.Lists.{below};
 ghost use Rattle.page_surface.specs.Polygon.{sides};
 ghost use Rattle.drawing.specs.Layout.{count_on};
+ghost use Rattle.drawing.specs.Room.{rows};
 
-use obd_base::{Exit, Items, NoMemory};
+use obd_base::{Exit, NoMemory};
 use page_surface::Polygon;
 use std::alloc::Global;
 
 // The exits of all strands.
-pub(crate) fn joined(alloc: Global, strands: &[Items<Exit>]) -> Result<Vec<Exit>, NoMemory>
-    ensures { IfOk result (λ exits. exits.items ≡ flat_map (λ strand. strand) strands.now) }
+pub(crate) fn joined(alloc: Global, strands: &[Vec<Exit>]) -> Result<Vec<Exit>, NoMemory>
+    ensures { IfOk result (λ exits. exits.items ≡ flat_map (λ strand. strand) (rows strands.now)) }
 {
     let mut exits = Vec::new(alloc);
     for strand in strands {
-        exits.extend_from_slice(strand.as_slice())?;
+        exits.extend_from_slice(strand)?;
     }
     Ok(exits)
 }

@@ -28,11 +28,11 @@ pub(crate) struct Turn {
 
 // Two exits of a strand with the numbers of their points, where the second leaves by the partner of the first one's side.
 fn numbered(layout: &Layout, strand: StrandNo, at: u32, next: u32) -> Option<Turn>
-    requires placed { IsPlaced layout.now }
-    requires strand { strand < arc_count layout.now.polygon }
+    requires placed { IsPlaced layout.now.drawing }
+    requires strand { strand < arc_count layout.now.drawing.polygon }
     requires follows { at < next }
-    requires inside { next < length (strand_exits layout.now strand) }
-    ensures { IfSome result (λ t. HasNumbers layout.now strand at next t) }
+    requires inside { next < length (strand_exits layout.now.drawing strand) }
+    ensures { IfSome result (λ t. HasNumbers layout.now.drawing strand at next t) }
 {
     let exits = layout.exits(strand);
     let out = &exits[at as usize];
@@ -86,11 +86,11 @@ pub(crate) fn turn_at(
     strand: StrandNo,
     at: u32,
 ) -> Option<Turn>
-    requires embedded { IsEmbedded layout.now }
-    requires strand { strand < arc_count layout.now.polygon }
-    requires size { span_count layout.now ≤ length gone.now }
-    requires linked { AreLinksOf layout.now (is_gone gone.now) links.now.sides links.now.ways.items }
-    ensures { IfSome result (λ t. IsTurnAt layout.now (is_gone gone.now) t) }
+    requires embedded { IsEmbedded layout.now.drawing }
+    requires strand { strand < arc_count layout.now.drawing.polygon }
+    requires size { span_count layout.now.drawing ≤ length gone.now }
+    requires linked { AreLinksOf layout.now.drawing (is_gone gone.now) links.now.sides links.now.ways.items }
+    ensures { IfSome result (λ t. IsTurnAt layout.now.drawing (is_gone gone.now) t) }
 {
     let link = way_link(&links.ways, strand, at)?;
     let next = link.after;

@@ -23,10 +23,10 @@ fn find_turn(
     gone: &[bool],
     number: u32,
 ) -> Option<Turn>
-    requires embedded { IsEmbedded layout.now }
-    requires size { span_count layout.now ≤ length gone.now }
-    requires linked { AreLinksOf layout.now (is_gone gone.now) links.now.sides links.now.ways.items }
-    ensures { IfSome result (λ t. IsTurnAt layout.now (is_gone gone.now) t) }
+    requires embedded { IsEmbedded layout.now.drawing }
+    requires size { span_count layout.now.drawing ≤ length gone.now }
+    requires linked { AreLinksOf layout.now.drawing (is_gone gone.now) links.now.sides links.now.ways.items }
+    ensures { IfSome result (λ t. IsTurnAt layout.now.drawing (is_gone gone.now) t) }
 {
     let strand = *strands_at.get(number as usize)?;
     let at = *links.owners.as_slice().get(number as usize)?;
@@ -45,12 +45,12 @@ fn take_at(
     gone: &mut [bool],
     number: u32,
 ) -> Option<Turn>
-    requires embedded { IsEmbedded layout.now }
-    requires size { span_count layout.now ≤ length gone.old }
-    requires linked { AreLinksOf layout.now (is_gone gone.old) links.old.sides links.old.ways.items }
-    ensures linked { AreLinksOf layout.now (is_gone gone.new) links.new.sides links.new.ways.items }
-    ensures strand { IfSome result (λ t. t.strand < arc_count layout.now.polygon) }
-    ensures taken { IfSome result (λ t. (turns : ℕ) → TurnsGone layout.now (is_gone gone.old) turns → TurnsGone layout.now (is_gone gone.new) (turns + 1)) }
+    requires embedded { IsEmbedded layout.now.drawing }
+    requires size { span_count layout.now.drawing ≤ length gone.old }
+    requires linked { AreLinksOf layout.now.drawing (is_gone gone.old) links.old.sides links.old.ways.items }
+    ensures linked { AreLinksOf layout.now.drawing (is_gone gone.new) links.new.sides links.new.ways.items }
+    ensures strand { IfSome result (λ t. t.strand < arc_count layout.now.drawing.polygon) }
+    ensures taken { IfSome result (λ t. (turns : ℕ) → TurnsGone layout.now.drawing (is_gone gone.old) turns → TurnsGone layout.now.drawing (is_gone gone.new) (turns + 1)) }
     ensures none { IfNone result (gone.new ≡ gone.old) }
 {
     let turn = find_turn(layout, strands_at, links, gone, number)?;
@@ -98,8 +98,8 @@ fn put_before(
     waiting: &mut [u32],
     count: usize,
 ) -> usize
-    requires embedded { IsEmbedded layout.now }
-    requires strand { turn.now.strand < arc_count layout.now.polygon }
+    requires embedded { IsEmbedded layout.now.drawing }
+    requires strand { turn.now.strand < arc_count layout.now.drawing.polygon }
     requires room { count ≤ length waiting.old }
     ensures fits { result ≤ length waiting.new }
     ensures few { result ≤ count + 1 }
@@ -123,8 +123,8 @@ fn put_beside(
     waiting: &mut [u32],
     count: usize,
 ) -> usize
-    requires embedded { IsEmbedded layout.now }
-    requires strand { turn.now.strand < arc_count layout.now.polygon }
+    requires embedded { IsEmbedded layout.now.drawing }
+    requires strand { turn.now.strand < arc_count layout.now.drawing.polygon }
     requires room { count ≤ length waiting.old }
     ensures fits { result ≤ length waiting.new }
     ensures few { result ≤ count + 5 }
@@ -144,13 +144,13 @@ fn settle(
     number: u32,
     before: u32,
 ) -> u32
-    requires embedded { IsEmbedded layout.now }
-    requires few { length (all_exits layout.now) < 2 ^ 28 }
-    requires size { span_count layout.now ≤ length gone.old }
-    requires linked { AreLinksOf layout.now (is_gone gone.old) links.old.sides links.old.ways.items }
-    requires taken { TurnsGone layout.now (is_gone gone.old) before }
-    ensures linked { AreLinksOf layout.now (is_gone gone.new) links.new.sides links.new.ways.items }
-    ensures taken { TurnsGone layout.now (is_gone gone.new) result }
+    requires embedded { IsEmbedded layout.now.drawing }
+    requires few { length (all_exits layout.now.drawing) < 2 ^ 28 }
+    requires size { span_count layout.now.drawing ≤ length gone.old }
+    requires linked { AreLinksOf layout.now.drawing (is_gone gone.old) links.old.sides links.old.ways.items }
+    requires taken { TurnsGone layout.now.drawing (is_gone gone.old) before }
+    ensures linked { AreLinksOf layout.now.drawing (is_gone gone.new) links.new.sides links.new.ways.items }
+    ensures taken { TurnsGone layout.now.drawing (is_gone gone.new) result }
     ensures more { before ≤ result }
 {
     let mut turns = before;
@@ -175,11 +175,11 @@ pub(crate) fn take_nested(
     waiting: &mut [u32],
     before: u32,
 ) -> u32
-    requires embedded { IsEmbedded layout.now }
-    requires few { length (all_exits layout.now) < 2 ^ 28 }
-    requires size { span_count layout.now ≤ length gone.old }
-    requires taken { TurnsGone layout.now (is_gone gone.old) before }
-    ensures taken { TurnsGone layout.now (is_gone gone.new) result }
+    requires embedded { IsEmbedded layout.now.drawing }
+    requires few { length (all_exits layout.now.drawing) < 2 ^ 28 }
+    requires size { span_count layout.now.drawing ≤ length gone.old }
+    requires taken { TurnsGone layout.now.drawing (is_gone gone.old) before }
+    ensures taken { TurnsGone layout.now.drawing (is_gone gone.new) result }
     ensures more { before ≤ result }
 {
     links.set(layout, gone);

@@ -12,12 +12,12 @@ use obd_base::{ArcNo, Exit, StrandNo};
 
 // Where a chord of a strand begins: at the start of the strand, or where the strand enters after an exit.
 pub(crate) fn chord_start(layout: &Layout, strand: StrandNo, chord: u32) -> Exit
-    requires placed { IsPlaced layout.now }
-    requires strand { strand < arc_count layout.now.polygon }
-    requires chord { chord ≤ length (strand_exits layout.now strand) }
-    ensures side { result.side < sides layout.now.polygon }
-    ensures place { result.place ≤ points_on layout.now result.side }
-    ensures value { spot layout.now result ≡ (chord_at layout.now strand chord).from }
+    requires placed { IsPlaced layout.now.drawing }
+    requires strand { strand < arc_count layout.now.drawing.polygon }
+    requires chord { chord ≤ length (strand_exits layout.now.drawing strand) }
+    ensures side { result.side < sides layout.now.drawing.polygon }
+    ensures place { result.place ≤ points_on layout.now.drawing result.side }
+    ensures value { spot layout.now.drawing result ≡ (chord_at layout.now.drawing strand chord).from }
 {
     if chord == 0 {
         let polygon = layout.polygon();
@@ -29,9 +29,9 @@ pub(crate) fn chord_start(layout: &Layout, strand: StrandNo, chord: u32) -> Exit
 
 // Whether a chord of a strand separates two spans.
 fn strand_separates(layout: &Layout, strand: StrandNo, one: u32, other: u32) -> bool
-    requires placed { IsPlaced layout.now }
-    requires strand { strand < arc_count layout.now.polygon }
-    ensures { result ≡ list_any (λ c. separates c one other) (strand_chords layout.now strand) }
+    requires placed { IsPlaced layout.now.drawing }
+    requires strand { strand < arc_count layout.now.drawing.polygon }
+    ensures { result ≡ list_any (λ c. separates c one other) (strand_chords layout.now.drawing strand) }
 {
     let polygon = layout.polygon();
     let first_side = polygon.first_side(ArcNo::new(strand.number()));
@@ -47,8 +47,8 @@ fn strand_separates(layout: &Layout, strand: StrandNo, one: u32, other: u32) -> 
 
 // Whether no chord separates two spans. Linear in the exits and sides.
 pub(crate) fn same_piece(layout: &Layout, one: u32, other: u32) -> bool
-    requires { IsPlaced layout.now }
-    ensures { result ≡ same_piece (chords layout.now) one other }
+    requires { IsPlaced layout.now.drawing }
+    ensures { result ≡ same_piece (chords layout.now.drawing) one other }
 {
     for strand in 0..layout.polygon().sides() / 2 {
         if strand_separates(layout, StrandNo::new(strand), one, other) {

@@ -11,7 +11,7 @@ use std::alloc::Global;
 
 // How often an exit or an entry stands at each point. Linear in the exits and sides.
 fn hits(alloc: Global, layout: &Layout) -> Result<Vec<u32>, NoMemory>
-    ensures { IfOk result (λ hits. IsHitTable layout.now hits.items) }
+    ensures { IfOk result (λ hits. IsHitTable layout.now.drawing hits.items) }
 {
     let exits = joined(alloc, layout.strands())?;
     let _ = layout.polygon();
@@ -27,9 +27,9 @@ fn hits(alloc: Global, layout: &Layout) -> Result<Vec<u32>, NoMemory>
 
 // Whether each point of a side is met once.
 fn is_right_on(layout: &Layout, hits: &[u32], side: SideNo) -> bool
-    requires hits { IsHitTable layout.now hits.now }
-    requires side { side < sides layout.now.polygon }
-    ensures { result ≡ right_on layout.now side }
+    requires hits { IsHitTable layout.now.drawing hits.now }
+    requires side { side < sides layout.now.drawing.polygon }
+    ensures { result ≡ right_on layout.now.drawing side }
 {
     for place in 0..layout.points_on(side) {
         if hits[layout.spot(Exit { side, place }) as usize] != 1 {
@@ -41,8 +41,8 @@ fn is_right_on(layout: &Layout, hits: &[u32], side: SideNo) -> bool
 
 // The first side on which places are wrong. Linear in the exits and sides.
 pub(crate) fn first_wrong(alloc: Global, layout: &Layout) -> Result<Option<SideNo>, NoMemory>
-    ensures wrong { IfOk result (λ found. IfSome found (IsFirstWrong layout.now)) }
-    ensures right { IfOk result (λ found. IfNone found (HasRightPlaces layout.now)) }
+    ensures wrong { IfOk result (λ found. IfSome found (IsFirstWrong layout.now.drawing)) }
+    ensures right { IfOk result (λ found. IfNone found (HasRightPlaces layout.now.drawing)) }
 {
     let hits = hits(alloc, layout)?;
     for number in 0..layout.polygon().sides() {

@@ -6,6 +6,7 @@ ghost use Rattle.page_surface.specs.Polygon.{arc_count, sides};
 ghost use Rattle.drawing.specs.Cut.{IsCut};
 ghost use Rattle.drawing.specs.Layout.{drawn};
 ghost use Rattle.drawing.specs.Reading.{Says};
+ghost use Rattle.drawing.specs.Room.{rows};
 
 use crate::chords::is_uncrossed;
 use crate::layout::Layout;
@@ -16,12 +17,23 @@ use page_surface::Polygon;
 use std::alloc::Global;
 
 // Lists of exits of their own.
-fn copied(alloc: Global, strands: &[Vec<Exit>]) -> Result<Vec<Items<Exit>>, NoMemory>
-    ensures { IfOk result (λ copy. copy.items ≡ map (λ strand. strand.items) strands.now) }
+fn copied(alloc: Global, strands: &[Vec<Exit>]) -> Result<Vec<Vec<Exit>>, NoMemory>
+    ensures { IfOk result (λ copy. rows copy.items ≡ map (λ s. s.items) strands.now) }
 {
     let mut copy = Vec::new(alloc);
     for strand in strands {
-        copy.push(Items::from_vec(Vec::from_slice(alloc, strand)?))?;
+        copy.push(Vec::from_slice(alloc, strand)?)?;
+    }
+    Ok(copy)
+}
+
+// The same of lists that hide how they are kept.
+fn unpacked(alloc: Global, strands: &[Items<Exit>]) -> Result<Vec<Vec<Exit>>, NoMemory>
+    ensures { IfOk result (λ copy. rows copy.items ≡ strands.now) }
+{
+    let mut copy = Vec::new(alloc);
+    for strand in strands {
+        copy.push(Vec::from_slice(alloc, strand.as_slice())?)?;
     }
     Ok(copy)
 }
@@ -42,7 +54,7 @@ impl Drawing {
         requires strands { length strands.now ≡ arc_count polygon.now }
         requires on_sides { list_all (λ e. nat_lt e.side (sides polygon.now)) (all_exits (drawn polygon.now (map (λ s. s.items) strands.now))) ≡ true }
         requires few { length (all_exits (drawn polygon.now (map (λ s. s.items) strands.now))) < 2 ^ 28 }
-        ensures drawing { IfOk result (λ drawing. drawing ≡ drawn polygon.now (map (λ s. s.items) strands.now)) }
+        ensures drawing { IfOk result (λ made. made.drawing ≡ drawn polygon.now (map (λ s. s.items) strands.now)) }
         ensures accepted { OnOk result (IsEmbedded (drawn polygon.now (map (λ s. s.items) strands.now))) }
         ensures cut { OnOk result (IsCut (drawn polygon.now (map (λ s. s.items) strands.now))) }
         ensures refused { IfErr result (Says (drawn polygon.now (map (λ s. s.items) strands.now))) }
@@ -60,8 +72,8 @@ impl Drawing {
         Ok(Drawing::of(alloc, layout)?)
     }
 
-    /// The drawing with these exits, strand by strand, which are known to be those of an embedded drawing, and are taken
-    /// over. It is `read` without its tests. Linear in the exits and sides.
+    /// The drawing with these exits, strand by strand, which are known to be those of an embedded drawing. It is
+    /// `read` without its tests. Linear in the exits and sides.
     pub fn embedded(
         alloc: Global,
         polygon: &Polygon,
@@ -69,8 +81,9 @@ impl Drawing {
     ) -> Result<Drawing, NoMemory>
         requires embedded { IsEmbedded (drawn polygon.now strands.items) }
         requires few { length (all_exits (drawn polygon.now strands.items)) < 2 ^ 28 }
-        ensures { IfOk result (λ drawing. drawing ≡ drawn polygon.now strands.items) }
+        ensures { IfOk result (λ made. made.drawing ≡ drawn polygon.now strands.items) }
     {
+        let strands = unpacked(alloc, &strands)?;
         Drawing::of(alloc, Layout::of(alloc, polygon.copy()?, strands)?)
     }
 }

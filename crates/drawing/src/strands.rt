@@ -11,11 +11,11 @@ use std::alloc::Global;
 
 // Sets a strand at the numbers of its exits and entries.
 fn set_strand(layout: &Layout, strand: StrandNo, table: &mut [StrandNo])
-    requires placed { IsPlaced layout.now }
-    requires strand { strand < arc_count layout.now.polygon }
-    requires size { length table.old ≡ span_count layout.now }
-    ensures { (x : ℕ) → x < span_count layout.now
-        → slice_index table.new x ≡ cond (meets layout.now (strand_exits layout.now strand) x) strand (slice_index table.old x) }
+    requires placed { IsPlaced layout.now.drawing }
+    requires strand { strand < arc_count layout.now.drawing.polygon }
+    requires size { length table.old ≡ span_count layout.now.drawing }
+    ensures { (x : ℕ) → x < span_count layout.now.drawing
+        → slice_index table.new x ≡ cond (meets layout.now.drawing (strand_exits layout.now.drawing strand) x) strand (slice_index table.old x) }
 {
     for exit in layout.exits(strand) {
         table[layout.spot(*exit) as usize] = strand;
@@ -25,9 +25,9 @@ fn set_strand(layout: &Layout, strand: StrandNo, table: &mut [StrandNo])
 
 // Sets the strand at each number of the place order that is a point's. Linear in the exits and sides.
 pub(crate) fn set_strands(layout: &Layout, table: &mut [StrandNo])
-    requires placed { IsPlaced layout.now }
-    requires size { length table.old ≡ span_count layout.now }
-    ensures { IsStrandTable layout.now table.new }
+    requires placed { IsPlaced layout.now.drawing }
+    requires size { length table.old ≡ span_count layout.now.drawing }
+    ensures { IsStrandTable layout.now.drawing table.new }
 {
     for strand in 0..layout.polygon().sides() / 2 {
         set_strand(layout, StrandNo::new(strand), table);
@@ -36,8 +36,8 @@ pub(crate) fn set_strands(layout: &Layout, table: &mut [StrandNo])
 
 // A table of them.
 pub(crate) fn strand_table(alloc: Global, layout: &Layout) -> Result<Vec<StrandNo>, NoMemory>
-    requires { IsPlaced layout.now }
-    ensures { IfOk result (λ table. IsStrandTable layout.now table.items) }
+    requires { IsPlaced layout.now.drawing }
+    ensures { IfOk result (λ table. IsStrandTable layout.now.drawing table.items) }
 {
     let mut table = vec![in alloc; StrandNo::new(0); layout.span_count() as usize]?;
     set_strands(layout, &mut table);

@@ -5,19 +5,20 @@ ghost use Rattle.obd_base.specs.Lists.{Mem, below};
 ghost use Rattle.obd_base.specs.declared.points.Exit.{Exit as Shown};
 ghost use Rattle.page_surface.specs.Polygon.{sides};
 ghost use Rattle.drawing.specs.Pieces.{span_count};
+ghost use Rattle.drawing.specs.Room.{rows};
 ghost use Rattle.drawing.specs.ThinTables.{AreNumbered, IsKnown, is_gone, moved_offsets, points_left, thinned_by};
 
 use crate::layout::Layout;
-use obd_base::{Exit, Items, SideNo};
+use obd_base::{Exit, SideNo};
 
 // Numbers the points of a side that stay, and sets the number of each at the number of the point in the place order.
 // What is gone takes the number of the next one that stays, and the end of the side how many stay.
 fn number_side(layout: &Layout, side: SideNo, gone: &[bool], places: &mut [u32])
-    requires side { side < sides layout.now.polygon }
-    requires gone_size { span_count layout.now ≤ length gone.now }
-    requires size { span_count layout.now ≤ length places.old }
-    requires before { AreNumbered layout.now (is_gone gone.now) side places.old }
-    ensures { AreNumbered layout.now (is_gone gone.now) (suc side) places.new }
+    requires side { side < sides layout.now.drawing.polygon }
+    requires gone_size { span_count layout.now.drawing ≤ length gone.now }
+    requires size { span_count layout.now.drawing ≤ length places.old }
+    requires before { AreNumbered layout.now.drawing (is_gone gone.now) side places.old }
+    ensures { AreNumbered layout.now.drawing (is_gone gone.now) (suc side) places.new }
 {
     let mut place = 0;
     for old in 0..layout.points_on(side) {
@@ -32,9 +33,9 @@ fn number_side(layout: &Layout, side: SideNo, gone: &[bool], places: &mut [u32])
 
 // The new places of all points. Linear in the exits and sides.
 pub(crate) fn number_points(layout: &Layout, gone: &[bool], places: &mut [u32])
-    requires gone_size { span_count layout.now ≤ length gone.now }
-    requires size { span_count layout.now ≤ length places.old }
-    ensures { AreNumbered layout.now (is_gone gone.now) (sides layout.now.polygon) places.new }
+    requires gone_size { span_count layout.now.drawing ≤ length gone.now }
+    requires size { span_count layout.now.drawing ≤ length places.old }
+    ensures { AreNumbered layout.now.drawing (is_gone gone.now) (sides layout.now.drawing.polygon) places.new }
 {
     for side in 0..layout.polygon().sides() {
         number_side(layout, SideNo::new(side), gone, places);
@@ -42,22 +43,19 @@ pub(crate) fn number_points(layout: &Layout, gone: &[bool], places: &mut [u32])
 }
 
 // Keeps the exits of a strand that stay, at their new places.
-fn thin_strand(offsets: &[u32], gone: &[bool], places: &[u32], exits: &mut Items<Exit>)
-    requires { (e : Shown) → Mem e exits.old → IsKnown offsets.now gone.now places.now e }
-    ensures { exits.new ≡ thinned_by offsets.now gone.now places.now exits.old }
+fn thin_strand(offsets: &[u32], gone: &[bool], places: &[u32], exits: &mut Vec<Exit>)
+    requires { (e : Shown) → Mem e exits.old.items → IsKnown offsets.now gone.now places.now e }
+    ensures { exits.new.items ≡ thinned_by offsets.now gone.now places.now exits.old.items }
 {
     let mut kept = 0;
     for at in 0..exits.len() {
-        let exit = *exits.item(at);
+        let exit = exits[at];
         let number = offsets[exit.side.number() as usize] as usize + exit.place as usize;
         if !gone[number] {
-            exits.set(
-                kept,
-                Exit {
-                    side: exit.side,
-                    place: places[number],
-                },
-            );
+            exits[kept] = Exit {
+                side: exit.side,
+                place: places[number],
+            };
             kept += 1;
         }
     }
@@ -69,10 +67,10 @@ pub(crate) fn thin_strands(
     offsets: &[u32],
     gone: &[bool],
     places: &[u32],
-    strands: &mut [Items<Exit>],
+    strands: &mut [Vec<Exit>],
 )
-    requires { (strand : List Shown) → Mem strand strands.old → (e : Shown) → Mem e strand → IsKnown offsets.now gone.now places.now e }
-    ensures { strands.new ≡ map (thinned_by offsets.now gone.now places.now) strands.old }
+    requires { (strand : List Shown) → Mem strand (rows strands.old) → (e : Shown) → Mem e strand → IsKnown offsets.now gone.now places.now e }
+    ensures { rows strands.new ≡ map (thinned_by offsets.now gone.now places.now) (rows strands.old) }
 {
     for strand in 0..strands.len() {
         thin_strand(offsets, gone, places, &mut strands[strand]);

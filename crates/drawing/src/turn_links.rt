@@ -1,5 +1,5 @@
 // The links by which nested turns are found: of the points of sides, and of the exits of strands.
-ghost use Rattle.std.specs.Prelude.{◌≡◌, ◌<◌, ◌≤◌, ◌^◌, length, IfOk};
+ghost use Rattle.std.specs.Prelude.{◌≡◌, ◌+◌, ◌*◌, ◌<◌, ◌≤◌, ◌^◌, length, IfOk};
 ghost use Rattle.page_surface.specs.Drawing.{IsEmbedded, all_exits, points_on};
 ghost use Rattle.page_surface.specs.Polygon.{arc_count, sides};
 ghost use Rattle.drawing.specs.Links.{AreLinked, AreLinksOf, AreWays, exit_gone};
@@ -30,8 +30,8 @@ impl Drop for Links {
     }
 }
 
-// Room for the links of the exits of each strand.
-fn room(alloc: Global, strands: &[Items<Exit>]) -> Result<Vec<Items<Link>>, NoMemory>
+// Room for the links of the exits of each strand, and of two more for each finger.
+fn room(alloc: Global, strands: &[Vec<Exit>], fingers: u32) -> Result<Vec<Items<Link>>, NoMemory>
     ensures { IfOk result (λ ways. length ways.items ≡ length strands.now) }
 {
     let link = Link {
@@ -40,14 +40,14 @@ fn room(alloc: Global, strands: &[Items<Exit>]) -> Result<Vec<Items<Link>>, NoMe
     };
     let mut ways = Vec::new(alloc);
     for exits in strands {
-        ways.push(Items::from_vec(vec![in alloc; link; exits.len()]?))?;
+        ways.push(Items::from_vec(vec![in alloc; link; exits.len() + 2 * fingers as usize]?))?;
     }
     Ok(ways)
 }
 
 // Links the numbers of the place order that aren't gone.
 fn link_sides(layout: &Layout, gone: &[bool], sides: &mut Items<Link>)
-    requires { span_count layout.now ≤ length gone.now }
+    requires { span_count layout.now.drawing ≤ length gone.now }
     ensures { AreLinked (is_gone gone.now) sides.new }
 {
     link_neighbours(sides, layout.span_count());
@@ -62,9 +62,9 @@ fn link_sides(layout: &Layout, gone: &[bool], sides: &mut Items<Link>)
 
 // Sets the number of an exit in its strand at that of its entry. It only says where to look, so no more is promised.
 fn set_owner(layout: &Layout, exit: &Exit, at: u32, owners: &mut [u32])
-    requires side { exit.now.side < sides layout.now.polygon }
-    requires place { exit.now.place < points_on layout.now exit.now.side }
-    requires embedded { IsEmbedded layout.now }
+    requires side { exit.now.side < sides layout.now.drawing.polygon }
+    requires place { exit.now.place < points_on layout.now.drawing exit.now.side }
+    requires embedded { IsEmbedded layout.now.drawing }
 {
     let entry = layout.spot(layout.entry(*exit)) as usize;
     if entry < owners.len() {
@@ -80,11 +80,11 @@ fn link_way(
     way: &mut Items<Link>,
     owners: &mut [u32],
 )
-    requires embedded { IsEmbedded layout.now }
-    requires few { length (all_exits layout.now) < 2 ^ 28 }
-    requires strand { strand < arc_count layout.now.polygon }
-    requires size { span_count layout.now ≤ length gone.now }
-    ensures { AreLinked (exit_gone layout.now (is_gone gone.now) strand) way.new }
+    requires embedded { IsEmbedded layout.now.drawing }
+    requires few { length (all_exits layout.now.drawing) < 2 ^ 28 }
+    requires strand { strand < arc_count layout.now.drawing.polygon }
+    requires size { span_count layout.now.drawing ≤ length gone.now }
+    ensures { AreLinked (exit_gone layout.now.drawing (is_gone gone.now) strand) way.new }
 {
     let exits = layout.exits(strand);
     let count = exits.len() as u32;
@@ -102,10 +102,10 @@ fn link_way(
 
 // The same for all strands.
 fn link_ways(layout: &Layout, gone: &[bool], ways: &mut [Items<Link>], owners: &mut [u32])
-    requires embedded { IsEmbedded layout.now }
-    requires few { length (all_exits layout.now) < 2 ^ 28 }
-    requires size { span_count layout.now ≤ length gone.now }
-    ensures { AreWays layout.now (is_gone gone.now) ways.new }
+    requires embedded { IsEmbedded layout.now.drawing }
+    requires few { length (all_exits layout.now.drawing) < 2 ^ 28 }
+    requires size { span_count layout.now.drawing ≤ length gone.now }
+    ensures { AreWays layout.now.drawing (is_gone gone.now) ways.new }
 {
     for strand in 0..layout.polygon().sides() / 2 {
         if (strand as usize) < ways.len() {
@@ -121,17 +121,18 @@ fn link_ways(layout: &Layout, gone: &[bool], ways: &mut [Items<Link>], owners: &
 }
 
 impl Links {
-    // Room for a drawing and what is left of it.
-    pub(crate) fn of(alloc: Global, layout: &Layout) -> Result<Links, NoMemory>
-        ensures { IfOk result (λ links. length links.sides ≡ span_count layout.now) }
+    // Room for a drawing with so many fingers and what is left of it.
+    pub(crate) fn of(alloc: Global, layout: &Layout, fingers: u32) -> Result<Links, NoMemory>
+        ensures { IfOk result (λ links. length links.sides ≡ span_count layout.now.drawing + 4 * fingers) }
     {
         let link = Link {
             before: 0,
             after: 0,
         };
-        let sides = Items::from_vec(vec![in alloc; link; layout.span_count() as usize]?);
-        let ways = room(alloc, layout.strands())?;
-        let owners = vec![in alloc; 0; layout.span_count() as usize]?;
+        let spans = layout.span_count() as usize + 4 * fingers as usize;
+        let sides = Items::from_vec(vec![in alloc; link; spans]?);
+        let ways = room(alloc, layout.strands(), fingers)?;
+        let owners = vec![in alloc; 0; spans]?;
         Ok(Links {
             sides,
             ways,
@@ -141,10 +142,10 @@ impl Links {
 
     // Links what isn't gone. Linear in the exits and sides.
     pub(crate) fn set(&mut self, layout: &Layout, gone: &[bool])
-        requires embedded { IsEmbedded layout.now }
-        requires few { length (all_exits layout.now) < 2 ^ 28 }
-        requires size { span_count layout.now ≤ length gone.now }
-        ensures { AreLinksOf layout.now (is_gone gone.now) self.new.sides self.new.ways.items }
+        requires embedded { IsEmbedded layout.now.drawing }
+        requires few { length (all_exits layout.now.drawing) < 2 ^ 28 }
+        requires size { span_count layout.now.drawing ≤ length gone.now }
+        ensures { AreLinksOf layout.now.drawing (is_gone gone.now) self.new.sides self.new.ways.items }
     {
         link_sides(layout, gone, &mut self.sides);
         link_ways(layout, gone, &mut self.ways, &mut self.owners);

@@ -13,9 +13,9 @@ use obd_base::{Exit, StrandNo};
 
 // Whether a strand that leaves by the one exit turns back by the next, the two being neighbours on their side.
 fn turns_back(layout: &Layout, out: Exit, back: Exit) -> bool
-    requires side { out.side < sides layout.now.polygon }
-    requires place { out.place < points_on layout.now out.side }
-    ensures { IsTrue result ↔ TurnsBack layout.now out back }
+    requires side { out.side < sides layout.now.drawing.polygon }
+    requires place { out.place < points_on layout.now.drawing out.side }
+    ensures { IsTrue result ↔ TurnsBack layout.now.drawing out back }
 {
     let entry = layout.entry(out);
     back.side == entry.side && back.place.abs_diff(entry.place) == 1
@@ -23,11 +23,11 @@ fn turns_back(layout: &Layout, out: Exit, back: Exit) -> bool
 
 // Takes a point out, under both its names.
 fn take_point(layout: &Layout, exit: &Exit, gone: &mut [bool])
-    requires placed { IsPlaced layout.now }
-    requires side { exit.now.side < sides layout.now.polygon }
-    requires place { exit.now.place < points_on layout.now exit.now.side }
-    requires size { span_count layout.now ≤ length gone.old }
-    ensures { IsPointGone layout.now exit.now gone.old gone.new }
+    requires placed { IsPlaced layout.now.drawing }
+    requires side { exit.now.side < sides layout.now.drawing.polygon }
+    requires place { exit.now.place < points_on layout.now.drawing exit.now.side }
+    requires size { span_count layout.now.drawing ≤ length gone.old }
+    ensures { IsPointGone layout.now.drawing exit.now gone.old gone.new }
 {
     gone[layout.spot(*exit) as usize] = true;
     gone[layout.spot(layout.entry(*exit)) as usize] = true;
@@ -35,14 +35,14 @@ fn take_point(layout: &Layout, exit: &Exit, gone: &mut [bool])
 
 // Takes the turns of a strand out that have no point with one taken before; answers how many are out then.
 fn take_strand(layout: &Layout, strand: StrandNo, gone: &mut [bool], before: u32) -> u32
-    requires embedded { IsEmbedded layout.now }
-    requires few { length (all_exits layout.now) < 2 ^ 28 }
-    requires strand { strand < arc_count layout.now.polygon }
-    requires size { span_count layout.now ≤ length gone.old }
-    requires taken { TurnsGone layout.now (is_gone gone.old) before }
-    ensures taken { TurnsGone layout.now (is_gone gone.new) result }
+    requires embedded { IsEmbedded layout.now.drawing }
+    requires few { length (all_exits layout.now.drawing) < 2 ^ 28 }
+    requires strand { strand < arc_count layout.now.drawing.polygon }
+    requires size { span_count layout.now.drawing ≤ length gone.old }
+    requires taken { TurnsGone layout.now.drawing (is_gone gone.old) before }
+    ensures taken { TurnsGone layout.now.drawing (is_gone gone.new) result }
     ensures more { before ≤ result }
-    ensures none { result ≡ 0 → NoTurnBefore layout.now (strand_exits layout.now strand) (length (strand_exits layout.now strand)) }
+    ensures none { result ≡ 0 → NoTurnBefore layout.now.drawing (strand_exits layout.now.drawing strand) (length (strand_exits layout.now.drawing strand)) }
 {
     let exits = layout.exits(strand);
     let mut turns = before;
@@ -63,12 +63,12 @@ fn take_strand(layout: &Layout, strand: StrandNo, gone: &mut [bool], before: u32
 
 // Takes turns out of all strands, one with each point at most; answers how many. Linear in the exits and sides.
 pub(crate) fn take_turns(layout: &Layout, gone: &mut [bool]) -> u32
-    requires embedded { IsEmbedded layout.now }
-    requires few { length (all_exits layout.now) < 2 ^ 28 }
-    requires size { span_count layout.now ≤ length gone.old }
+    requires embedded { IsEmbedded layout.now.drawing }
+    requires few { length (all_exits layout.now.drawing) < 2 ^ 28 }
+    requires size { span_count layout.now.drawing ≤ length gone.old }
     requires clear { (x : ℕ) → is_gone gone.old x ≡ false }
-    ensures taken { TurnsGone layout.now (is_gone gone.new) result }
-    ensures tight { result ≡ 0 → IsTight layout.now }
+    ensures taken { TurnsGone layout.now.drawing (is_gone gone.new) result }
+    ensures tight { result ≡ 0 → IsTight layout.now.drawing }
 {
     let mut turns = 0;
     for strand in 0..layout.polygon().sides() / 2 {

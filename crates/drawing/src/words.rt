@@ -10,7 +10,7 @@ use std::alloc::Global;
 impl Drawing {
     /// The words of all strands, by their arcs. Linear in the exits.
     pub fn words(&self, alloc: Global) -> Result<Items<Items<SideNo>>, NoMemory>
-        ensures { IfOk result (λ all. all ≡ words self.now) }
+        ensures { IfOk result (λ all. all ≡ words self.now.drawing) }
     {
         // That a drawing has points says that it is embedded.
         let _ = self.points();

@@ -18,7 +18,7 @@ use std::alloc::Global;
 
 // The search through a drawing.
 fn search_of(alloc: Global, drawing: &Drawing, limit: u32) -> Result<Search, NoMemory>
-    ensures arcs { IfOk result (λ search. search.arcs ≡ all_strands drawing.now) }
+    ensures arcs { IfOk result (λ search. search.arcs ≡ all_strands drawing.now.drawing) }
     ensures open { IfOk result (λ search. search.open ≡ open_rows search.arcs) }
     ensures links { IfOk result (λ search. AreLinked search.arcs search.links) }
     ensures small { IfOk result (λ search. AreSmall search.arcs) }
@@ -49,10 +49,10 @@ fn search_of(alloc: Global, drawing: &Drawing, limit: u32) -> Result<Search, NoM
 /// most 9 tables of 256 bytes.
 pub fn list(alloc: Global, drawing: &Drawing, limit: u32) -> Result<Generators, ListRefusal>
     requires { limit + 1 < 2 ^ 32 }
-    ensures listed { IfOk result (λ listed. listed ≡ generators drawing.now) }
+    ensures listed { IfOk result (λ listed. listed ≡ generators drawing.now.drawing) }
     ensures within { IfOk result (λ listed. length listed ≤ limit) }
     ensures over { IfErr result (λ refusal. (over : ℕ) → refusal ≡ ListRefusal.GeneratorLimit over
-        → (over ≡ limit + 1) × (limit < length (generators drawing.now))) }
+        → (over ≡ limit + 1) × (limit < length (generators drawing.now.drawing))) }
 {
     let search = search_of(alloc, drawing, limit)?;
     let mut found = Packed::new(alloc, search.arcs.len() as u32);

@@ -10,8 +10,8 @@ use std::alloc::Global;
 
 // The strand of each point of an arc: those through its crossing points, and its own for its contact point.
 fn arc_strands(alloc: Global, drawing: &Drawing, arc: ArcNo) -> Result<Items<StrandNo>, NoMemory>
-    requires { arc < arc_count drawing.now.polygon }
-    ensures { IfOk result (λ strands. strands ≡ arc_strands drawing.now arc) }
+    requires { arc < arc_count drawing.now.drawing.polygon }
+    ensures { IfOk result (λ strands. strands ≡ arc_strands drawing.now.drawing arc) }
 {
     let _ = drawing.points();
     let side = drawing.polygon().first_side(arc);
@@ -28,7 +28,7 @@ pub(crate) fn all_strands(
     alloc: Global,
     drawing: &Drawing,
 ) -> Result<Items<Items<StrandNo>>, NoMemory>
-    ensures { IfOk result (λ strands. strands ≡ all_strands drawing.now) }
+    ensures { IfOk result (λ strands. strands ≡ all_strands drawing.now.drawing) }
 {
     let mut strands = Items::new(alloc);
     for arc in 0..drawing.polygon().sides() / 2 {

@@ -1,6 +1,6 @@
 mod Below
-mod ContactColumn
-mod ContactLaw
+pub mod ContactColumn
+pub mod ContactLaw
 mod DomainTest
 pub mod Examples
 mod Identity

@@ -36,7 +36,7 @@ impl Model for Diagram {
 
     ghost Value = { Shown };
 
-    ghost view = { λ d. d.drawing };
+    ghost view = { λ d. d.drawing.drawing };
 }
 
 /// The diagram of the identity drawing. Linear in the sides.
@@ -49,22 +49,22 @@ pub fn first(alloc: Global, polygon: &Polygon) -> Result<Diagram, NoMemory>
 impl Diagram {
     /// The diagram of a drawing, which is taken over. Constant time, as are the calls below; all take no memory.
     pub fn of(drawing: Drawing) -> Diagram
-        ensures { result ≡ drawing }
+        ensures { result ≡ drawing.drawing }
     {
         Diagram { drawing }
     }
 
     /// Its drawing.
     pub fn drawing(&self) -> &Drawing
-        ensures { result.now ≡ self.now }
+        ensures { result.now.drawing ≡ self.now }
     {
         &self.drawing
     }
 
     /// Its drawing as it stands, to be changed: the diagram is then that of the changed drawing.
     pub fn drawing_mut(&mut self) -> &mut Drawing
-        ensures* writes_back { sem 𝓛 (Lends diagram_row drawing_row self.entry result (λ w. w)) }
-        ensures lent { result.now ≡ self.old }
+        ensures* writes_back { sem 𝓛 (Lends diagram_row drawing_row self.entry result (λ w. w.drawing)) }
+        ensures lent { result.now.drawing ≡ self.old }
     {
         &mut self.drawing
     }

@@ -23,8 +23,8 @@ fn are_same(word: &[SideNo], wanted: &[SideNo]) -> bool
 
 // Whether the word of a strand is this.
 fn has_word(drawing: &Drawing, strand: StrandNo, wanted: &[SideNo]) -> Result<bool, NoMemory>
-    requires { strand < arc_count drawing.now.polygon }
-    ensures { IfOk result (λ same. IsTrue same → map (λ e. e.side) (strand_exits drawing.now strand) ≡ wanted.now) }
+    requires { strand < arc_count drawing.now.drawing.polygon }
+    ensures { IfOk result (λ same. IsTrue same → map (λ e. e.side) (strand_exits drawing.now.drawing strand) ≡ wanted.now) }
 {
     let word = drawing.word(strand)?;
     Ok(are_same(word.as_slice(), wanted))
@@ -32,7 +32,7 @@ fn has_word(drawing: &Drawing, strand: StrandNo, wanted: &[SideNo]) -> Result<bo
 
 /// Whether the words of the strands are these. Linear in the letters.
 pub(crate) fn has_words(drawing: &Drawing, wanted: &[Items<SideNo>]) -> Result<bool, NoMemory>
-    ensures { IfOk result (λ same. IsTrue same → words drawing.now ≡ wanted.now) }
+    ensures { IfOk result (λ same. IsTrue same → words drawing.now.drawing ≡ wanted.now) }
 {
     // That a drawing has points says that it has a strand for each arc.
     let _ = drawing.points();

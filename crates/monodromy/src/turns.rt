@@ -20,15 +20,15 @@ fn repeated(
     sign: Sign,
     turns: u32,
 ) -> Result<(), TwistRefusal>
-    requires curve { IsCurve drawing.old.polygon curve.now }
-    requires few { length (all_exits drawing.old) ≤ 4000 }
-    requires tight { IsTight drawing.old }
-    ensures turned { OnOk result (times drawing.old.polygon curve.now sign turns (words drawing.old) ≡ Ok (words drawing.new)) }
-    ensures polygon { OnOk result (drawing.new.polygon ≡ drawing.old.polygon) }
-    ensures few { OnOk result (length (all_exits drawing.new) ≤ 4000) }
-    ensures tight { OnOk result (IsTight drawing.new) }
+    requires curve { IsCurve drawing.old.drawing.polygon curve.now }
+    requires few { length (all_exits drawing.old.drawing) ≤ 4000 }
+    requires tight { IsTight drawing.old.drawing }
+    ensures turned { OnOk result (times drawing.old.drawing.polygon curve.now sign turns (words drawing.old.drawing) ≡ Ok (words drawing.new.drawing)) }
+    ensures polygon { OnOk result (drawing.new.drawing.polygon ≡ drawing.old.drawing.polygon) }
+    ensures few { OnOk result (length (all_exits drawing.new.drawing) ≤ 4000) }
+    ensures tight { OnOk result (IsTight drawing.new.drawing) }
     ensures long { IfErr result (λ refusal. (count : ℕ) → refusal ≡ TwistRefusal.TooLong count
-        → times drawing.old.polygon curve.now sign turns (words drawing.old) ≡ Err count) }
+        → times drawing.old.drawing.polygon curve.now sign turns (words drawing.old.drawing) ≡ Err count) }
 {
     // A curve has an exit.
     let _ = curve.exits().len();
@@ -46,15 +46,15 @@ pub(crate) fn by_power(
     curve: Option<&Curve>,
     power: i32,
 ) -> Result<(), TwistRefusal>
-    requires curve { IfSome curve (λ c. IsCurve drawing.old.polygon c.now) }
-    requires few { length (all_exits drawing.old) ≤ 4000 }
-    requires tight { IsTight drawing.old }
-    ensures turned { OnOk result (words_by_power drawing.old.polygon (exits_of (option_map (λ c. c.now) curve.entry)) power (words drawing.old) ≡ Ok (words drawing.new)) }
-    ensures polygon { OnOk result (drawing.new.polygon ≡ drawing.old.polygon) }
-    ensures few { OnOk result (length (all_exits drawing.new) ≤ 4000) }
-    ensures tight { OnOk result (IsTight drawing.new) }
+    requires curve { IfSome curve (λ c. IsCurve drawing.old.drawing.polygon c.now) }
+    requires few { length (all_exits drawing.old.drawing) ≤ 4000 }
+    requires tight { IsTight drawing.old.drawing }
+    ensures turned { OnOk result (words_by_power drawing.old.drawing.polygon (exits_of (option_map (λ c. c.now) curve.entry)) power (words drawing.old.drawing) ≡ Ok (words drawing.new.drawing)) }
+    ensures polygon { OnOk result (drawing.new.drawing.polygon ≡ drawing.old.drawing.polygon) }
+    ensures few { OnOk result (length (all_exits drawing.new.drawing) ≤ 4000) }
+    ensures tight { OnOk result (IsTight drawing.new.drawing) }
     ensures long { IfErr result (λ refusal. (count : ℕ) → refusal ≡ TwistRefusal.TooLong count
-        → words_by_power drawing.old.polygon (exits_of (option_map (λ c. c.now) curve.entry)) power (words drawing.old) ≡ Err count) }
+        → words_by_power drawing.old.drawing.polygon (exits_of (option_map (λ c. c.now) curve.entry)) power (words drawing.old.drawing) ≡ Err count) }
 {
     let Some(curve) = curve else {
         return Ok(());

@@ -29,15 +29,15 @@ fn turn_by_entry(
     twist: &Twist,
     drawing: &mut Drawing,
 ) -> Result<(), MonodromyRefusal>
-    requires curves { All (λ curve. IfSome curve (IsCurve drawing.old.polygon)) curves.now }
-    requires few { length (all_exits drawing.old) ≤ 4000 }
-    requires tight { IsTight drawing.old }
-    ensures turned { OnOk result (by_entry drawing.old.polygon (map exits_of curves.now) number twist.now (words drawing.old) ≡ Ok (words drawing.new)) }
-    ensures polygon { OnOk result (drawing.new.polygon ≡ drawing.old.polygon) }
-    ensures few { OnOk result (length (all_exits drawing.new) ≤ 4000) }
-    ensures tight { OnOk result (IsTight drawing.new) }
+    requires curves { All (λ curve. IfSome curve (IsCurve drawing.old.drawing.polygon)) curves.now }
+    requires few { length (all_exits drawing.old.drawing) ≤ 4000 }
+    requires tight { IsTight drawing.old.drawing }
+    ensures turned { OnOk result (by_entry drawing.old.drawing.polygon (map exits_of curves.now) number twist.now (words drawing.old.drawing) ≡ Ok (words drawing.new.drawing)) }
+    ensures polygon { OnOk result (drawing.new.drawing.polygon ≡ drawing.old.drawing.polygon) }
+    ensures few { OnOk result (length (all_exits drawing.new.drawing) ≤ 4000) }
+    ensures tight { OnOk result (IsTight drawing.new.drawing) }
     ensures long { IfErr result (λ refusal. (long : Long) → refusal ≡ MonodromyRefusal.TooLong long
-        → by_entry drawing.old.polygon (map exits_of curves.now) number twist.now (words drawing.old) ≡ Err long) }
+        → by_entry drawing.old.drawing.polygon (map exits_of curves.now) number twist.now (words drawing.old.drawing) ≡ Err long) }
 {
     match by_power(alloc, drawing, curve_of(curves, twist.curve), twist.power) {
         Ok(()) => Ok(()),
@@ -56,15 +56,15 @@ fn turn_by_word(
     twists: &[Twist],
     drawing: &mut Drawing,
 ) -> Result<(), MonodromyRefusal>
-    requires curves { All (λ curve. IfSome curve (IsCurve drawing.old.polygon)) curves.now }
-    requires few { length (all_exits drawing.old) ≤ 4000 }
-    requires tight { IsTight drawing.old }
-    ensures turned { OnOk result (by_entries drawing.old.polygon (map exits_of curves.now) 0 twists.now (words drawing.old) ≡ Ok (words drawing.new)) }
-    ensures polygon { OnOk result (drawing.new.polygon ≡ drawing.old.polygon) }
-    ensures few { OnOk result (length (all_exits drawing.new) ≤ 4000) }
-    ensures tight { OnOk result (IsTight drawing.new) }
+    requires curves { All (λ curve. IfSome curve (IsCurve drawing.old.drawing.polygon)) curves.now }
+    requires few { length (all_exits drawing.old.drawing) ≤ 4000 }
+    requires tight { IsTight drawing.old.drawing }
+    ensures turned { OnOk result (by_entries drawing.old.drawing.polygon (map exits_of curves.now) 0 twists.now (words drawing.old.drawing) ≡ Ok (words drawing.new.drawing)) }
+    ensures polygon { OnOk result (drawing.new.drawing.polygon ≡ drawing.old.drawing.polygon) }
+    ensures few { OnOk result (length (all_exits drawing.new.drawing) ≤ 4000) }
+    ensures tight { OnOk result (IsTight drawing.new.drawing) }
     ensures long { IfErr result (λ refusal. (long : Long) → refusal ≡ MonodromyRefusal.TooLong long
-        → by_entries drawing.old.polygon (map exits_of curves.now) 0 twists.now (words drawing.old) ≡ Err long) }
+        → by_entries drawing.old.drawing.polygon (map exits_of curves.now) 0 twists.now (words drawing.old.drawing) ≡ Err long) }
 {
     for (number, twist) in twists.iter().enumerate() {
         turn_by_entry(alloc, curves, number as u64, twist, drawing)?;
@@ -80,8 +80,8 @@ fn drawn_in_full(
     twists: &[Twist],
 ) -> Result<Drawing, MonodromyRefusal>
     requires { All (λ curve. IfSome curve (IsCurve polygon.now)) curves.now }
-    ensures drawn { IfOk result (λ drawing. IsDrawn polygon.now (words drawing) drawing) }
-    ensures words { IfOk result (λ drawing. words_after polygon.now (map exits_of curves.now) twists.now ≡ Ok (words drawing)) }
+    ensures drawn { IfOk result (λ drawing. IsDrawn polygon.now (words drawing.drawing) drawing.drawing) }
+    ensures words { IfOk result (λ drawing. words_after polygon.now (map exits_of curves.now) twists.now ≡ Ok (words drawing.drawing)) }
     ensures long { IfErr result (λ refusal. (long : Long) → refusal ≡ MonodromyRefusal.TooLong long
         → words_after polygon.now (map exits_of curves.now) twists.now ≡ Err long) }
 {
@@ -101,7 +101,7 @@ fn drawn_by_sums(
     wanted: &[Items<SideNo>],
 ) -> Result<Option<Drawing>, NoMemory>
     requires { All (λ curve. IfSome curve (IsCurve polygon.now)) curves.now }
-    ensures { IfOk result (λ drawing. IfSome drawing (IsDrawn polygon.now wanted.now)) }
+    ensures { IfOk result (λ drawing. IfSome drawing (λ d. IsDrawn polygon.now wanted.now d.drawing)) }
 {
     let sums = added_up(alloc, twists)?;
     match drawn_in_full(alloc, polygon, curves, &sums) {
@@ -133,8 +133,8 @@ pub fn drawn(
     twists: &[Twist],
 ) -> Result<Drawing, MonodromyRefusal>
     requires { All (λ curve. IfSome curve (IsCurve polygon.now)) curves.now }
-    ensures words { IfOk result (λ drawing. words_after polygon.now (map exits_of curves.now) twists.now ≡ Ok (words drawing)) }
-    ensures drawn { IfOk result (λ drawing. IsDrawn polygon.now (words drawing) drawing) }
+    ensures words { IfOk result (λ drawing. words_after polygon.now (map exits_of curves.now) twists.now ≡ Ok (words drawing.drawing)) }
+    ensures drawn { IfOk result (λ drawing. IsDrawn polygon.now (words drawing.drawing) drawing.drawing) }
     ensures long { IfErr result (λ refusal. (long : Long) → refusal ≡ MonodromyRefusal.TooLong long
         → words_after polygon.now (map exits_of curves.now) twists.now ≡ Err long) }
 {

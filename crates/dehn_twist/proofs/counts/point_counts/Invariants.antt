@@ -5,4 +5,4 @@ use Rattle.dehn_twist.proofs.counts.point_counts.Given as goal
 
 -- the sides so far
 abbrev pub invariant-loop-side : goal.invariant-loop-side
-invariant-loop-side l = l.points.items ≡ map (points_on l.drawing) (below l.side)
+invariant-loop-side l = l.points.items ≡ map (points_on l.drawing.drawing) (below l.side)

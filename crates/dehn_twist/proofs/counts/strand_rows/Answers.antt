@@ -6,10 +6,10 @@ use Rattle.dehn_twist.proofs.counts.strand_rows.Goals as goal
 
 pub loop-strand-preserved : goal.loop-strand-preserved
 loop-strand-preserved c =
-    map_push (strand_exits c.args.drawing.now) c.loop-strand.strand _ _ _ c.loop-strand.invariant
-    (c.from_vec.ensures ∙ (c.in_ok-exits.ensures ∙ ap (strand_exits c.args.drawing.now) c.new.ensures)) c.in_ok-push.ensures.items
+    map_push (strand_exits c.args.drawing.now.drawing) c.loop-strand.strand _ _ _ c.loop-strand.invariant
+    (c.from_vec.ensures ∙ (c.in_ok-exits.ensures ∙ ap (strand_exits c.args.drawing.now.drawing) c.new.ensures)) c.in_ok-push.ensures.items
 
 pub returns : goal.returns
 returns c =
-    rows_all c.args.drawing.now c.loop-strand.strand _ c.points.ensures.valid
+    rows_all c.args.drawing.now.drawing c.loop-strand.strand _ c.points.ensures.valid
     (omega (arith, c.loop-strand.auto, c.loop-strand-test.false, c.sides-strand-end.ensures.value, ap sides c.polygon.ensures)) c.loop-strand.invariant

@@ -5,4 +5,4 @@ use Rattle.dehn_twist.proofs.counts.strand_rows.Given as goal
 
 -- the strands so far
 abbrev pub invariant-loop-strand : goal.invariant-loop-strand
-invariant-loop-strand l = l.rows.items ≡ map (strand_exits l.drawing) (below l.strand)
+invariant-loop-strand l = l.rows.items ≡ map (strand_exits l.drawing.drawing) (below l.strand)

@@ -6,4 +6,4 @@ use Rattle.drawing.proofs.chords.all_chords.Given as goal
 
 -- the chords of the strands so far
 abbrev pub invariant-loop-strand : goal.invariant-loop-strand
-invariant-loop-strand l = l.all.items ≡ flat_map (strand_chords l.layout) (below l.strand)
+invariant-loop-strand l = l.all.items ≡ flat_map (strand_chords l.layout.drawing) (below l.strand)

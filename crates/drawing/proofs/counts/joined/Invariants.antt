@@ -1,8 +1,8 @@
-use Rattle.std.proofs.Common.{◌≡◌, List, take}
+use Rattle.std.proofs.Common.{◌≡◌, take}
+use Rattle.std.specs.Prelude.{vec_items}
 use Rattle.std.specs.List.{flat_map}
-use Rattle.obd_base.specs.declared.points.Exit.{Exit}
 use Rattle.drawing.proofs.counts.joined.Given as goal
 
 -- the exits of the strands so far
 abbrev pub invariant-loop-strand : goal.invariant-loop-strand
-invariant-loop-strand l = l.exits.items ≡ flat_map (λ (strand : List Exit). strand) (take l.strand-index l.strands)
+invariant-loop-strand l = l.exits.items ≡ flat_map vec_items (take l.strand-index l.strands)

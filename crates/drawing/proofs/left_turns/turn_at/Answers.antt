@@ -6,7 +6,7 @@ use Rattle.drawing.proofs.left_turns.turn_at.Goals as goal
 
 pub returns-then-is_free : goal.returns-then-is_free
 returns-then-is_free c =
-    let d = c.args.layout.now in
+    let d = c.args.layout.now.drawing in
     let gone = is_gone c.args.gone.now in
     let ways : AreWays d gone c.deref.result.now = rw c.deref.ensures.value c.requires.linked.ways_linked in
     turn_found d gone c.args.strand c.args.at c.in_ok-link.link.after c.in_ok-turn.turn c.requires.strand c.if-next-at.false (omega (arith, c.if-next-exits.false, ap length c.exits.ensures))

@@ -7,7 +7,7 @@ use Rattle.drawing.proofs.nested.take_nested.Given as goal
 -- the turns so far are gone, and links lead over them
 abbrev pub invariant-loop-number : goal.invariant-loop-number
 invariant-loop-number l = record {
-  linked : AreLinksOf l.layout (is_gone l.gone) l.links.sides l.links.ways.items;
-  taken : TurnsGone l.layout (is_gone l.gone) l.turns;
+  linked : AreLinksOf l.layout.drawing (is_gone l.gone) l.links.sides l.links.ways.items;
+  taken : TurnsGone l.layout.drawing (is_gone l.gone) l.turns;
   more : l.fn.before ≤ l.turns;
 }

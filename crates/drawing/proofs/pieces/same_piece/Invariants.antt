@@ -7,4 +7,4 @@ use Rattle.drawing.proofs.pieces.same_piece.Given as goal
 
 -- no chord of the strands so far separates the spans
 abbrev pub invariant-loop-strand : goal.invariant-loop-strand
-invariant-loop-strand l = list_any (λ c. separates c l.fn.one l.fn.other) (flat_map (strand_chords l.layout) (below l.strand)) ≡ false
+invariant-loop-strand l = list_any (λ c. separates c l.fn.one l.fn.other) (flat_map (strand_chords l.layout.drawing) (below l.strand)) ≡ false

@@ -9,42 +9,42 @@ use Rattle.drawing.proofs.pieces.strand_separates.Goals as goal
 
 pub loop-exit-init : goal.loop-exit-init
 loop-exit-init c =
-    let f : c.first_side-first_side.result ≡ first_side c.args.layout.now.polygon c.args.strand = cc in
-    let s : c.pair.result ≡ second_side c.args.layout.now.polygon c.args.strand = cc in
-    let h = strand_start c.args.layout.now c.args.strand _ _ _ _ c.requires.placed c.requires.strand f s c.end_of-from.ensures c.exits-exit-items.ensures in
+    let f : c.first_side-first_side.result ≡ first_side c.args.layout.now.drawing.polygon c.args.strand = cc in
+    let s : c.pair.result ≡ second_side c.args.layout.now.drawing.polygon c.args.strand = cc in
+    let h = strand_start c.args.layout.now.drawing c.args.strand _ _ _ _ c.requires.placed c.requires.strand f s c.end_of-from.ensures c.exits-exit-items.ensures in
     record { from_side = h.0; from_place = h.1; left = ap (list_any (λ k. separates k c.args.one c.args.other)) h.2 }
 
 pub chord_between-requires-clause-to_side : goal.chord_between-requires-clause-to_side
-chord_between-requires-clause-to_side c = (exit_there c.args.layout.now c.requires.placed c.args.strand _ _ _ c.exits-exit-items.ensures c.loop-exit-test.true c.exit-item.is).0
+chord_between-requires-clause-to_side c = (exit_there c.args.layout.now.drawing c.requires.placed c.args.strand _ _ _ c.exits-exit-items.ensures c.loop-exit-test.true c.exit-item.is).0
 
 pub chord_between-requires-clause-to_place : goal.chord_between-requires-clause-to_place
 chord_between-requires-clause-to_place c =
-    let k = exit_there c.args.layout.now c.requires.placed c.args.strand _ _ _ c.exits-exit-items.ensures c.loop-exit-test.true c.exit-item.is in
+    let k = exit_there c.args.layout.now.drawing c.requires.placed c.args.strand _ _ _ c.exits-exit-items.ensures c.loop-exit-test.true c.exit-item.is in
     omega (arith, k)
 
 pub entry-from-requires-clause-side : goal.entry-from-requires-clause-side
-entry-from-requires-clause-side c = (exit_there c.args.layout.now c.requires.placed c.args.strand _ _ _ c.exits-exit-items.ensures c.loop-exit-test.true c.exit-item.is).0
+entry-from-requires-clause-side c = (exit_there c.args.layout.now.drawing c.requires.placed c.args.strand _ _ _ c.exits-exit-items.ensures c.loop-exit-test.true c.exit-item.is).0
 
 pub entry-from-requires-clause-place : goal.entry-from-requires-clause-place
-entry-from-requires-clause-place c = (exit_there c.args.layout.now c.requires.placed c.args.strand _ _ _ c.exits-exit-items.ensures c.loop-exit-test.true c.exit-item.is).1
+entry-from-requires-clause-place c = (exit_there c.args.layout.now.drawing c.requires.placed c.args.strand _ _ _ c.exits-exit-items.ensures c.loop-exit-test.true c.exit-item.is).1
 
 pub returns-then-separates : goal.returns-then-separates
 returns-then-separates c =
-    found_here (λ k. separates k c.args.one c.args.other) c.args.layout.now _ _ _ _ _ _ _ _ c.loop-exit-test.true c.exit-item.is c.chord_between.ensures
+    found_here (λ k. separates k c.args.one c.args.other) c.args.layout.now.drawing _ _ _ _ _ _ _ _ c.loop-exit-test.true c.exit-item.is c.chord_between.ensures
     c.separates.ensures c.if-separates.true c.loop-exit.invariant.left
 
 pub loop-exit-preserved : goal.loop-exit-preserved
 loop-exit-preserved c =
-    let k = exit_there c.args.layout.now c.requires.placed c.args.strand _ _ _ c.exits-exit-items.ensures c.loop-exit-test.true c.exit-item.is in
-    let r = entry_there c.args.layout.now c.requires.placed _ _ k c.entry-from.ensures in
+    let k = exit_there c.args.layout.now.drawing c.requires.placed c.args.strand _ _ _ c.exits-exit-items.ensures c.loop-exit-test.true c.exit-item.is in
+    let r = entry_there c.args.layout.now.drawing c.requires.placed _ _ k c.entry-from.ensures in
     record {
       from_side = r.0;
       from_place = omega (arith, r);
-      left = found_later (λ k. separates k c.args.one c.args.other) c.args.layout.now _ _ _ _ _ _ _ _ _ c.loop-exit-test.true c.exit-item.is c.chord_between.ensures
+      left = found_later (λ k. separates k c.args.one c.args.other) c.args.layout.now.drawing _ _ _ _ _ _ _ _ _ c.loop-exit-test.true c.exit-item.is c.chord_between.ensures
           c.entry-from.ensures c.separates.ensures c.if-separates.false c.loop-exit.invariant.left;
     }
 
 pub returns : goal.returns
 returns c =
     let z = rw c.end_of.ensures at c.chord_between-2.ensures in
-    found_last (λ k. separates k c.args.one c.args.other) c.args.layout.now _ _ _ _ _ _ _ c.loop-exit-test.false z c.separates-2.ensures c.loop-exit.invariant.left
+    found_last (λ k. separates k c.args.one c.args.other) c.args.layout.now.drawing _ _ _ _ _ _ _ c.loop-exit-test.false z c.separates-2.ensures c.loop-exit.invariant.left

@@ -8,8 +8,8 @@ use Rattle.drawing.proofs.pieces.strand_separates.Given as goal
 -- the chords from here on decide
 abbrev pub invariant-loop-exit : goal.invariant-loop-exit
 invariant-loop-exit l = record {
-  from_side : l.from.side < sides l.layout.polygon;
-  from_place : l.from.place ≤ points_on l.layout l.from.side;
-  left : list_any (λ c. separates c l.fn.one l.fn.other) (cut_strand l.layout l.from (drop l.exit-index l.exit-items) (end_of l.layout l.first_side))
-      ≡ list_any (λ c. separates c l.fn.one l.fn.other) (strand_chords l.layout l.fn.strand);
+  from_side : l.from.side < sides l.layout.drawing.polygon;
+  from_place : l.from.place ≤ points_on l.layout.drawing l.from.side;
+  left : list_any (λ c. separates c l.fn.one l.fn.other) (cut_strand l.layout.drawing l.from (drop l.exit-index l.exit-items) (end_of l.layout.drawing l.first_side))
+      ≡ list_any (λ c. separates c l.fn.one l.fn.other) (strand_chords l.layout.drawing l.fn.strand);
 }

@@ -6,4 +6,4 @@ use Rattle.drawing.proofs.places.first_wrong.Given as goal
 
 -- the sides so far are right
 abbrev pub invariant-loop-number : goal.invariant-loop-number
-invariant-loop-number l = list_all (right_on l.layout) (below l.number) ≡ true
+invariant-loop-number l = list_all (right_on l.layout.drawing) (below l.number) ≡ true

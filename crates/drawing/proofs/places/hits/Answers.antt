@@ -8,7 +8,7 @@ use Rattle.drawing.proofs.places.hits.Goals.{then-exit-points_on, else-exit-poin
 
 pub overflow_add-index_mut : goal.overflow_add-index_mut
 overflow_add-index_mut c =
-    let d = c.args.layout.now in
+    let d = c.args.layout.now.drawing in
     let all = c.deref-exit-items.ensures.value ∙ (c.in_ok-exits.ensures ∙ ap (λ (xs : List (List Exit)). flat_map (λ s. s) xs) c.strands.ensures) in
     let ls = exit_side d _ _ _ c.polygon.ensures.written all c.loop-exit-test.true c.exit-item.is in
     let few : length c.deref-exit-items.result.now < 2 ^ 28 = let e = ap length all in omega (arith, e, c.polygon.ensures.written.few) in
@@ -18,7 +18,7 @@ overflow_add-index_mut c =
 
 pub spot-requires-then-exit-points_on-clause-place : goal.spot-requires-then-exit-points_on-clause-place
 spot-requires-then-exit-points_on-clause-place c =
-    let d = c.args.layout.now in
+    let d = c.args.layout.now.drawing in
     let all = c.deref-exit-items.ensures.value ∙ (c.in_ok-exits.ensures ∙ ap (λ (xs : List (List Exit)). flat_map (λ s. s) xs) c.strands.ensures) in
     let ls = exit_side d _ _ _ c.polygon.ensures.written all c.loop-exit-test.true c.exit-item.is in
     let lp : c.exit-item.result.place < points_on d c.exit-item.result.side = omega (arith, c.if-exit-points_on.true, c.points_on.ensures.value) in
@@ -26,7 +26,7 @@ spot-requires-then-exit-points_on-clause-place c =
 
 pub overflow_add-index_mut-then-exit-points_on : goal.overflow_add-index_mut-then-exit-points_on
 overflow_add-index_mut-then-exit-points_on c =
-    let d = c.args.layout.now in
+    let d = c.args.layout.now.drawing in
     let all = c.deref-exit-items.ensures.value ∙ (c.in_ok-exits.ensures ∙ ap (λ (xs : List (List Exit)). flat_map (λ s. s) xs) c.strands.ensures) in
     let ls = exit_side d _ _ _ c.polygon.ensures.written all c.loop-exit-test.true c.exit-item.is in
     let few : length c.deref-exit-items.result.now < 2 ^ 28 = let e = ap length all in omega (arith, e, c.polygon.ensures.written.few) in
@@ -38,16 +38,16 @@ overflow_add-index_mut-then-exit-points_on c =
 pub loop-exit-preserved : goal.loop-exit-preserved
 loop-exit-preserved c = elim c.if-exit-points_on.branch [
   | then-exit-points_on w ↦
-      let d = c.args.layout.now in
+      let d = c.args.layout.now.drawing in
       let lp : c.exit-item.result.place < points_on d c.exit-item.result.side = omega (arith, w.if-exit-points_on.true, c.points_on.ensures.value) in
       rw w.hits-is (entry_hit d _ _ _ _ c.loop-exit-test.true c.exit-item.is c.loop-exit.invariant lp _ _ w.spot.ensures.value (omega (arith, w.spot.ensures.inside)) w.index_mut.ensures.value
       _ _ (w.spot-then-exit-points_on.ensures.value ∙ ap (spot d) w.entry.ensures) (omega (arith, w.spot-then-exit-points_on.ensures.inside)) w.index_mut-then-exit-points_on.ensures.value)
   | else-exit-points_on w ↦
-      let d = c.args.layout.now in
+      let d = c.args.layout.now.drawing in
       rw w.hits-is (off_side d _ _ _ _ c.loop-exit-test.true c.exit-item.is c.loop-exit.invariant (omega (arith, w.if-exit-points_on.false, c.points_on.ensures.value)))
 ]
 
 pub returns : goal.returns
 returns c =
     let all = c.deref-exit-items.ensures.value ∙ (c.in_ok-exits.ensures ∙ ap (λ (xs : List (List Exit)). flat_map (λ s. s) xs) c.strands.ensures) in
-    hit_table c.args.layout.now _ _ _ c.polygon.ensures.written.polygon all c.loop-exit-test.false c.loop-exit.invariant
+    hit_table c.args.layout.now.drawing _ _ _ c.polygon.ensures.written.polygon all c.loop-exit-test.false c.loop-exit.invariant

@@ -6,4 +6,4 @@ use Rattle.drawing.proofs.places.hits.Given as goal
 
 -- the points that the exits so far meet
 abbrev pub invariant-loop-exit : goal.invariant-loop-exit
-invariant-loop-exit l = IsFilled (hits_of l.layout (take l.exit-index l.exit-items)) (span_count l.layout) l.hits.items
+invariant-loop-exit l = IsFilled (hits_of l.layout.drawing (take l.exit-index l.exit-items)) (span_count l.layout.drawing) l.hits.items

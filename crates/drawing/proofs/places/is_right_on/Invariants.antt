@@ -6,4 +6,4 @@ use Rattle.drawing.proofs.places.is_right_on.Given as goal
 
 -- the points so far are met once
 abbrev pub invariant-loop-place : goal.invariant-loop-place
-invariant-loop-place l = list_all (met_once l.layout l.fn.side) (below l.place) ≡ true
+invariant-loop-place l = list_all (met_once l.layout.drawing l.fn.side) (below l.place) ≡ true

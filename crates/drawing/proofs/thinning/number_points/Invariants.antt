@@ -3,4 +3,4 @@ use Rattle.drawing.proofs.thinning.number_points.Given as goal
 
 -- the sides so far are numbered
 abbrev pub invariant-loop-side : goal.invariant-loop-side
-invariant-loop-side l = AreNumbered l.layout (is_gone l.gone) l.side l.places
+invariant-loop-side l = AreNumbered l.layout.drawing (is_gone l.gone) l.side l.places

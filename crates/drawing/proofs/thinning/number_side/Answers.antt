@@ -7,7 +7,7 @@ use Rattle.drawing.proofs.thinning.number_side.Goals.{then-not-gone-number, else
 
 pub loop-old-preserved : goal.loop-old-preserved
 loop-old-preserved c =
-    let d = c.args.layout.now in
+    let d = c.args.layout.now.drawing in
     let gone = is_gone c.args.gone.now in
     let inv = c.loop-old.invariant in
     let x = c.spot-number.ensures.value in
@@ -29,7 +29,7 @@ loop-old-preserved c =
 
 pub returns : goal.returns
 returns c =
-    let d = c.args.layout.now in
+    let d = c.args.layout.now.drawing in
     let inv = c.loop-old.invariant in
     let x = c.spot.ensures.value ∙ ap (spot d) c.end_of.ensures in
     side_numbered d (is_gone c.args.gone.now) c.args.side c.loop-old.old _ _ c.loop-old.places

@@ -6,6 +6,6 @@ use Rattle.drawing.proofs.thinning.thin_strand.Given as goal
 abbrev pub invariant-loop-at : goal.invariant-loop-at
 invariant-loop-at l = record {
   within : l.kept ≤ l.at;
-  kept : take l.kept l.exits ≡ thinned_by l.offsets l.gone l.places (take l.at l.fn.exits);
-  left : drop l.at l.exits ≡ drop l.at l.fn.exits;
+  kept : take l.kept l.exits.items ≡ thinned_by l.offsets l.gone l.places (take l.at l.fn.exits.items);
+  left : drop l.at l.exits.items ≡ drop l.at l.fn.exits.items;
 }

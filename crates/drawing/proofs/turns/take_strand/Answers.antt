@@ -8,39 +8,39 @@ use Rattle.drawing.proofs.turns.take_strand.Goals as goal
 use Rattle.drawing.proofs.turns.take_strand.Goals.{then-turns_back+then-not-gone-spot+then-not-gone-spot-2, else-turns_back, else-turns_back-via-then-turns_back+then-not-gone-spot+else-not-gone-spot-2, else-turns_back-via-then-turns_back+else-not-gone-spot, else-turns_back-via-else-turns_back}
 
 pub turns_back-requires-clause-side : goal.turns_back-requires-clause-side
-turns_back-requires-clause-side c = (exit_there c.args.layout.now (placed c.args.layout.now c.requires.embedded) c.args.strand _ _ _ c.exits-exits.ensures (omega (arith, c.loop-at-test.true)) c.index-exits-at.is).0
+turns_back-requires-clause-side c = (exit_there c.args.layout.now.drawing (placed c.args.layout.now.drawing c.requires.embedded) c.args.strand _ _ _ c.exits-exits.ensures (omega (arith, c.loop-at-test.true)) c.index-exits-at.is).0
 
 pub turns_back-requires-clause-place : goal.turns_back-requires-clause-place
-turns_back-requires-clause-place c = (exit_there c.args.layout.now (placed c.args.layout.now c.requires.embedded) c.args.strand _ _ _ c.exits-exits.ensures (omega (arith, c.loop-at-test.true)) c.index-exits-at.is).1
+turns_back-requires-clause-place c = (exit_there c.args.layout.now.drawing (placed c.args.layout.now.drawing c.requires.embedded) c.args.strand _ _ _ c.exits-exits.ensures (omega (arith, c.loop-at-test.true)) c.index-exits-at.is).1
 
 pub spot-requires-clause-side : goal.spot-requires-clause-side
-spot-requires-clause-side c = (exit_there c.args.layout.now (placed c.args.layout.now c.requires.embedded) c.args.strand _ _ _ c.exits-exits.ensures (omega (arith, c.loop-at-test.true)) c.index-exits-at.is).0
+spot-requires-clause-side c = (exit_there c.args.layout.now.drawing (placed c.args.layout.now.drawing c.requires.embedded) c.args.strand _ _ _ c.exits-exits.ensures (omega (arith, c.loop-at-test.true)) c.index-exits-at.is).0
 
 pub spot-requires-clause-place : goal.spot-requires-clause-place
-spot-requires-clause-place c = let k = exit_there c.args.layout.now (placed c.args.layout.now c.requires.embedded) c.args.strand _ _ _ c.exits-exits.ensures (omega (arith, c.loop-at-test.true)) c.index-exits-at.is in omega (arith, k)
+spot-requires-clause-place c = let k = exit_there c.args.layout.now.drawing (placed c.args.layout.now.drawing c.requires.embedded) c.args.strand _ _ _ c.exits-exits.ensures (omega (arith, c.loop-at-test.true)) c.index-exits-at.is in omega (arith, k)
 
 pub spot-requires-then-not-gone-spot-clause-side : goal.spot-requires-then-not-gone-spot-clause-side
-spot-requires-then-not-gone-spot-clause-side c = (exit_there c.args.layout.now (placed c.args.layout.now c.requires.embedded) c.args.strand _ _ _ c.exits-exits.ensures c.loop-at-test.true c.index-exits-at-in-loop-at.is).0
+spot-requires-then-not-gone-spot-clause-side c = (exit_there c.args.layout.now.drawing (placed c.args.layout.now.drawing c.requires.embedded) c.args.strand _ _ _ c.exits-exits.ensures c.loop-at-test.true c.index-exits-at-in-loop-at.is).0
 
 pub spot-requires-then-not-gone-spot-clause-place : goal.spot-requires-then-not-gone-spot-clause-place
-spot-requires-then-not-gone-spot-clause-place c = let k = exit_there c.args.layout.now (placed c.args.layout.now c.requires.embedded) c.args.strand _ _ _ c.exits-exits.ensures c.loop-at-test.true c.index-exits-at-in-loop-at.is in omega (arith, k)
+spot-requires-then-not-gone-spot-clause-place c = let k = exit_there c.args.layout.now.drawing (placed c.args.layout.now.drawing c.requires.embedded) c.args.strand _ _ _ c.exits-exits.ensures c.loop-at-test.true c.index-exits-at-in-loop-at.is in omega (arith, k)
 
 pub take_point-requires-clause-side : goal.take_point-requires-clause-side
-take_point-requires-clause-side c = (exit_there c.args.layout.now (placed c.args.layout.now c.requires.embedded) c.args.strand _ _ _ c.exits-exits.ensures (omega (arith, c.loop-at-test.true)) c.index-exits-at.is).0
+take_point-requires-clause-side c = (exit_there c.args.layout.now.drawing (placed c.args.layout.now.drawing c.requires.embedded) c.args.strand _ _ _ c.exits-exits.ensures (omega (arith, c.loop-at-test.true)) c.index-exits-at.is).0
 
 pub take_point-requires-clause-place : goal.take_point-requires-clause-place
-take_point-requires-clause-place c = (exit_there c.args.layout.now (placed c.args.layout.now c.requires.embedded) c.args.strand _ _ _ c.exits-exits.ensures (omega (arith, c.loop-at-test.true)) c.index-exits-at.is).1
+take_point-requires-clause-place c = (exit_there c.args.layout.now.drawing (placed c.args.layout.now.drawing c.requires.embedded) c.args.strand _ _ _ c.exits-exits.ensures (omega (arith, c.loop-at-test.true)) c.index-exits-at.is).1
 
 pub take_point-requires-then-not-gone-spot-2-clause-side : goal.take_point-requires-then-not-gone-spot-2-clause-side
-take_point-requires-then-not-gone-spot-2-clause-side c = (exit_there c.args.layout.now (placed c.args.layout.now c.requires.embedded) c.args.strand _ _ _ c.exits-exits.ensures c.loop-at-test.true c.index-exits-at-in-loop-at.is).0
+take_point-requires-then-not-gone-spot-2-clause-side c = (exit_there c.args.layout.now.drawing (placed c.args.layout.now.drawing c.requires.embedded) c.args.strand _ _ _ c.exits-exits.ensures c.loop-at-test.true c.index-exits-at-in-loop-at.is).0
 
 pub take_point-requires-then-not-gone-spot-2-clause-place : goal.take_point-requires-then-not-gone-spot-2-clause-place
-take_point-requires-then-not-gone-spot-2-clause-place c = (exit_there c.args.layout.now (placed c.args.layout.now c.requires.embedded) c.args.strand _ _ _ c.exits-exits.ensures c.loop-at-test.true c.index-exits-at-in-loop-at.is).1
+take_point-requires-then-not-gone-spot-2-clause-place c = (exit_there c.args.layout.now.drawing (placed c.args.layout.now.drawing c.requires.embedded) c.args.strand _ _ _ c.exits-exits.ensures c.loop-at-test.true c.index-exits-at-in-loop-at.is).1
 
 pub loop-at-preserved : goal.loop-at-preserved
 loop-at-preserved c =
     let inv = c.loop-at.invariant in
-    let d = c.args.layout.now in
+    let d = c.args.layout.now.drawing in
     let more = no_turn_more d _ _ _ _ inv.from_one c.loop-at-test.true c.index-exits-at.is c.index-exits-at-in-loop-at.is in
     elim c.if-turns_back.branch [
       | then-turns_back+then-not-gone-spot+then-not-gone-spot-2 w ↦
@@ -60,4 +60,4 @@ loop-at-preserved c =
     ]
 
 pub returns-clause-none : goal.returns-clause-none
-returns-clause-none c = λ z. no_turn_all c.args.layout.now _ _ _ c.exits-exits.ensures c.loop-at-test.false (c.loop-at.invariant.none z)
+returns-clause-none c = λ z. no_turn_all c.args.layout.now.drawing _ _ _ c.exits-exits.ensures c.loop-at-test.false (c.loop-at.invariant.none z)

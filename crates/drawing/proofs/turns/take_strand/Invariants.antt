@@ -8,7 +8,7 @@ use Rattle.drawing.proofs.turns.take_strand.Given as goal
 abbrev pub invariant-loop-at : goal.invariant-loop-at
 invariant-loop-at l = record {
   from_one : 1 ≤ l.at;
-  taken : TurnsGone l.layout (is_gone l.gone) l.turns;
+  taken : TurnsGone l.layout.drawing (is_gone l.gone) l.turns;
   more : l.fn.before ≤ l.turns;
-  none : l.turns ≡ 0 → NoTurnBefore l.layout l.exits l.at;
+  none : l.turns ≡ 0 → NoTurnBefore l.layout.drawing l.exits l.at;
 }

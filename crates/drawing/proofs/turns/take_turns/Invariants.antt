@@ -8,6 +8,6 @@ use Rattle.drawing.proofs.turns.take_turns.Given as goal
 -- the turns so far are gone, and where there is none the strands so far have none
 abbrev pub invariant-loop-strand : goal.invariant-loop-strand
 invariant-loop-strand l = record {
-  taken : TurnsGone l.layout (is_gone l.gone) l.turns;
-  none : l.turns ≡ 0 → (i : ℕ) → i < l.strand → NoTurnBefore l.layout (strand_exits l.layout i) (length (strand_exits l.layout i));
+  taken : TurnsGone l.layout.drawing (is_gone l.gone) l.turns;
+  none : l.turns ≡ 0 → (i : ℕ) → i < l.strand → NoTurnBefore l.layout.drawing (strand_exits l.layout.drawing i) (length (strand_exits l.layout.drawing i));
 }

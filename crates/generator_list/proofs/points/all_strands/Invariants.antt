@@ -5,4 +5,4 @@ use Rattle.generator_list.proofs.points.all_strands.Given as goal
 
 -- the strands of the arcs so far
 abbrev pub invariant-loop-arc : goal.invariant-loop-arc
-invariant-loop-arc l = l.strands ≡ map (arc_strands l.drawing) (below l.arc)
+invariant-loop-arc l = l.strands ≡ map (arc_strands l.drawing.drawing) (below l.arc)

@@ -5,4 +5,4 @@ use Rattle.generator_list.proofs.points.arc_strands.Given as goal
 
 -- the strands of the points so far
 abbrev pub invariant-loop-place : goal.invariant-loop-place
-invariant-loop-place l = l.strands ≡ map (strand_of l.drawing l.arc) (below l.place)
+invariant-loop-place l = l.strands ≡ map (strand_of l.drawing.drawing l.arc) (below l.place)

@@ -4,4 +4,4 @@ use Rattle.monodromy.proofs.compare.has_words.Given as goal
 
 -- the words of the strands so far are these
 abbrev pub invariant-loop-strand : goal.invariant-loop-strand
-invariant-loop-strand l = take l.strand (words l.drawing) ≡ take l.strand l.wanted
+invariant-loop-strand l = take l.strand (words l.drawing.drawing) ≡ take l.strand l.wanted

@@ -20,17 +20,17 @@ turn_by_word-requires-clause-tight c = subst IsTight (sym c.in_ok-drawing.ensure
 pub returns-in_err-turn_by_word-clause-long : goal.returns-in_err-turn_by_word-clause-long
 returns-in_err-turn_by_word-clause-long c =
     let p = c.args.polygon.now in
-    let same = word_from_identity p (map exits_of c.args.curves.now) c.args.twists.now c.in_ok-drawing.drawing c.in_ok-drawing.ensures in
+    let same = word_from_identity p (map exits_of c.args.curves.now) c.args.twists.now c.in_ok-drawing.drawing.drawing c.in_ok-drawing.ensures in
     handed_on (λ long. words_after p (map exits_of c.args.curves.now) c.args.twists.now ≡ Err long) _ _ c.from_residual-in_err-turn_by_word.ensures.1
     (λ long given. sym same ∙ c.in_err-turn_by_word.ensures.long long given)
 
 pub returns-clause-words : goal.returns-clause-words
 returns-clause-words c =
-    sym (word_from_identity c.args.polygon.now (map exits_of c.args.curves.now) c.args.twists.now c.in_ok-drawing.drawing c.in_ok-drawing.ensures) ∙ c.in_ok-turn_by_word.ensures.turned
+    sym (word_from_identity c.args.polygon.now (map exits_of c.args.curves.now) c.args.twists.now c.in_ok-drawing.drawing.drawing c.in_ok-drawing.ensures) ∙ c.in_ok-turn_by_word.ensures.turned
 
 pub returns-clause-drawn : goal.returns-clause-drawn
 returns-clause-drawn c =
-    let d = c.turn_by_word.new.drawing in
+    let d = c.turn_by_word.new.drawing.drawing in
     let polygon = c.in_ok-turn_by_word.ensures.polygon ∙ ap (λ (d : Drawing). d.polygon) c.in_ok-drawing.ensures in
     record {
       drawn = is_tight_drawing d c.points.ensures.valid c.in_ok-turn_by_word.ensures.tight ∙ ap (λ p. tight_drawing p (words d)) polygon;

@@ -10,10 +10,10 @@ use Rattle.monodromy.proofs.words.first_words.Goals as goal
 pub returns-clause-value : goal.returns-clause-value
 returns-clause-value c =
     let p = c.args.polygon.now in
-    IfOk-weaker c.words.result (λ ws. ws ≡ words c.in_ok-drawing.drawing) (λ ws. ws ≡ identity_words p) (λ ws is. is ∙ (ap words c.in_ok-drawing.ensures ∙ words_of_identity p)) c.words.ensures
+    IfOk-weaker c.words.result (λ ws. ws ≡ words c.in_ok-drawing.drawing.drawing) (λ ws. ws ≡ identity_words p) (λ ws is. is ∙ (ap words c.in_ok-drawing.ensures ∙ words_of_identity p)) c.words.ensures
 
 pub returns-clause-words : goal.returns-clause-words
 returns-clause-words c =
     let p = c.args.polygon.now in
-    IfOk-weaker c.words.result (λ ws. ws ≡ words c.in_ok-drawing.drawing) (AreWords p)
+    IfOk-weaker c.words.result (λ ws. ws ≡ words c.in_ok-drawing.drawing.drawing) (AreWords p)
     (λ ws is. subst (AreWords p) (sym (is ∙ (ap words c.in_ok-drawing.ensures ∙ words_of_identity p))) (identity_are_words p c.sides.ensures.valid (omega (arith, c.sides.ensures.value, c.sides.ensures.most)))) c.words.ensures

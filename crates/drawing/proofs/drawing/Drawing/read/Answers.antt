@@ -7,10 +7,10 @@ use Rattle.drawing.proofs.drawing.Drawing.read.Goals as goal
 
 pub returns-then-not-branch-clause-refused : goal.returns-then-not-branch-clause-refused
 returns-then-not-branch-clause-refused c =
-    let right : HasRightPlaces c.in_ok-layout.layout = rw c.in_default.is at c.in_ok-side.ensures.right in
-    let placed : IsPlaced c.in_ok-layout.layout = written_placed _ c.polygon.ensures.written right in
-    let cross : no_two_cross (chords c.in_ok-layout.layout) ≡ false = sym c.in_ok-is_uncrossed.ensures ∙ c.if-not-branch.true in
-    let is = c.in_ok-layout.ensures ∙ ap₂ drawn c.in_ok-copy.ensures c.in_ok-copied.ensures in
+    let right : HasRightPlaces c.in_ok-layout.layout.drawing = rw c.in_default.is at c.in_ok-side.ensures.right in
+    let placed : IsPlaced c.in_ok-layout.layout.drawing = written_placed _ c.polygon.ensures.written right in
+    let cross : no_two_cross (chords c.in_ok-layout.layout.drawing) ≡ false = sym c.in_ok-is_uncrossed.ensures ∙ c.if-not-branch.true in
+    let is = c.in_ok-layout.ensures.drawing ∙ ap₂ drawn c.in_ok-copy.ensures c.in_ok-copied.ensures in
     subst (λ (d : Drawing). IsPlaced d × (no_two_cross (chords d) ≡ false)) is (placed, cross)
 
 pub returns-clause-cut : goal.returns-clause-cut

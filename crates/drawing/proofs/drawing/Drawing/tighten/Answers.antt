@@ -10,11 +10,11 @@ loop-turns-preserved c = record {
 
 pub returns-clause-words : goal.returns-clause-words
 returns-clause-words c =
-    tight_words c.args.self.now c.loop-turns.self c.take_turns-turns.ensures.valid c.loop-turns.invariant.loosened (c.loop-turns.invariant.tight (omega (arith, c.loop-turns-test.false)))
+    tight_words c.args.self.now.drawing c.loop-turns.self.drawing c.take_turns-turns.ensures.valid c.loop-turns.invariant.loosened (c.loop-turns.invariant.tight (omega (arith, c.loop-turns-test.false)))
 
 pub returns-clause-tight : goal.returns-clause-tight
 returns-clause-tight c = c.loop-turns.invariant.tight (omega (arith, c.loop-turns-test.false))
 
 pub returns-clause-drawing : goal.returns-clause-drawing
 returns-clause-drawing c =
-    tight_loosened c.args.self.now c.loop-turns.self c.take_turns-turns.ensures.valid c.loop-turns.invariant.loosened (c.loop-turns.invariant.tight (omega (arith, c.loop-turns-test.false)))
+    tight_loosened c.args.self.now.drawing c.loop-turns.self.drawing c.take_turns-turns.ensures.valid c.loop-turns.invariant.loosened (c.loop-turns.invariant.tight (omega (arith, c.loop-turns-test.false)))

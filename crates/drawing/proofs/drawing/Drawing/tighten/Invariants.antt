@@ -7,10 +7,10 @@ use Rattle.drawing.proofs.drawing.Drawing.tighten.Given as goal
 -- turns are taken out, and where the last pass found none the drawing is tight
 abbrev pub invariant-loop-turns : goal.invariant-loop-turns
 invariant-loop-turns l = record {
-  loosened : Loosened l.fn.self l.self;
-  tight : l.turns ≡ 0 → IsTight l.self;
+  loosened : Loosened l.fn.self.drawing l.self.drawing;
+  tight : l.turns ≡ 0 → IsTight l.self.drawing;
 }
 
 -- each turn takes two exits with it
 abbrev pub decreases-loop-turns : goal.decreases-loop-turns
-decreases-loop-turns l = length (all_exits l.self) + l.turns
+decreases-loop-turns l = length (all_exits l.self.drawing) + l.turns
