@@ -1,0 +1,15 @@
+pub mod Cycles
+pub mod GluedTree
+pub mod Homes
+pub mod Kept
+pub mod NewNames
+pub mod Paths
+pub mod PushedCycles
+pub mod PushedNext
+pub mod Replayed
+pub mod Segments
+pub mod Sides
+pub mod Spread
+pub mod Touched
+pub mod Trees
+pub mod Walk

@@ -5,8 +5,8 @@
 //! so two letters that cancel come into its word. All other order stays, and no two chords cross.
 #![tactic(auto)]
 
-ghost use Rattle.std.specs.Prelude.{◌≡◌, ◌+◌, ◌<◌, ◌^◌, length, map, IsTrue, OnErr, OnOk, ◌↔◌};
-ghost use Rattle.page_surface.specs.Drawing.{all_exits, words};
+ghost use Rattle.std.specs.Prelude.{◌≡◌, ◌≤◌, suc, map, IsTrue, ◌↔◌};
+ghost use Rattle.page_surface.specs.Drawing.{words};
 ghost use Rattle.page_surface.specs.Words.{reduced};
 ghost use Rattle.drawing.specs.Fingers.{IsEffect, IsLegal, pushed};
 
@@ -15,12 +15,11 @@ mod tests;
 
 use drawing::Drawing;
 pub use drawing::Finger;
-use obd_base::NoMemory;
 
 /// Whether a finger is legal: whether its strand, chord, side and segment are there, and the chord borders the piece
 /// that holds the segment. Linear in the exits; takes no memory.
 pub fn is_legal(drawing: &Drawing, finger: &Finger) -> bool
-    ensures { IsTrue result ↔ IsLegal drawing.now finger.now }
+    ensures { IsTrue result ↔ IsLegal drawing.now.drawing finger.now }
 {
     let sides = drawing.polygon().sides();
     finger.strand.number() < sides / 2
@@ -30,20 +29,19 @@ pub fn is_legal(drawing: &Drawing, finger: &Finger) -> bool
         && drawing.pieces_share(finger.strand, finger.chord, finger.side, finger.segment)
 }
 
-/// Pushes a legal finger: leaves the drawing that it makes, of which there is exactly one. Where memory is wanting the
-/// drawing stays. Linear in the exits and sides.
-pub fn apply(drawing: &mut Drawing, finger: &Finger) -> Result<(), NoMemory>
-    requires legal { IsLegal drawing.old finger.now }
-    requires few { length (all_exits drawing.old) + 2 < 2 ^ 28 }
+/// Pushes a legal finger: leaves the drawing that it makes, of which there is exactly one. Takes one of the room that
+/// `Drawing::reserve` makes, and no memory. Linear in all exits and the sides.
+pub fn apply(drawing: &mut Drawing, finger: &Finger)
+    requires legal { IsLegal drawing.old.drawing finger.now }
+    requires room { 1 ≤ drawing.old.room }
 
-    ensures effect { OnOk result (IsEffect drawing.old finger.now drawing.new) }
-    ensures value { OnOk result (drawing.new ≡ pushed drawing.old finger.now) }
-    ensures words { OnOk result (map (reduced drawing.old.polygon) (words drawing.new) ≡ map (reduced drawing.old.polygon) (words drawing.old)) }
+    ensures effect { IsEffect drawing.old.drawing finger.now drawing.new.drawing }
+    ensures value { drawing.new.drawing ≡ pushed drawing.old.drawing finger.now }
+    ensures words { map (reduced drawing.old.drawing.polygon) (words drawing.new.drawing) ≡ map (reduced drawing.old.drawing.polygon) (words drawing.old.drawing) }
 
-    ensures stays { OnErr result (drawing.new ≡ drawing.old) }
+    ensures room { suc drawing.new.room ≡ drawing.old.room }
 {
     // That a drawing has points says that it is embedded.
     let _ = drawing.points();
-    *drawing = drawing.pushed(finger)?;
-    Ok(())
+    drawing.push(finger.strand, finger.chord, finger.side, finger.segment);
 }

@@ -21,13 +21,21 @@ fn torus(alloc: Global) -> Result<Polygon, NoMemory>
     Polygon::of(alloc, pairs)
 }
 
-// Pushes the finger where it is legal, and answers whether it is.
-fn push(drawing: &mut Drawing, finger: &Finger) -> Result<bool, NoMemory> {
-    if drawing.points() > 1000 || !is_legal(drawing, finger) {
-        return Ok(false);
+// Makes room in a small drawing.
+fn make_room(drawing: &mut Drawing, fingers: u8) -> Result<(), NoMemory> {
+    if drawing.points() <= 1000 {
+        drawing.reserve(u32::from(fingers))?;
     }
-    apply(drawing, finger)?;
-    Ok(true)
+    Ok(())
+}
+
+// Pushes the finger where it is legal and there is room, and answers whether it does.
+fn push(drawing: &mut Drawing, finger: &Finger) -> bool {
+    if drawing.room() == 0 || !is_legal(drawing, finger) {
+        return false;
+    }
+    apply(drawing, finger);
+    true
 }
 
 // Whether a strand is there and has these exits.
@@ -57,13 +65,14 @@ fn finger_of_the_untwisted_torus(rt: HostRuntime) -> Result<(), Fail> {
     let alloc = rt.alloc();
     let polygon = torus(alloc)?;
     let mut drawing = Drawing::identity(alloc, &polygon)?;
+    make_room(&mut drawing, 2)?;
     let finger = Finger {
         strand: StrandNo::new(0),
         chord: 0,
         side: SideNo::new(1),
         segment: 0,
     };
-    assert!(rt; push(&mut drawing, &finger)?);
+    assert!(rt; push(&mut drawing, &finger));
     assert!(rt; has_exits(&drawing, 0, &[[1, 0], [3, 1], [2, 0]])?);
     assert!(rt; has_exits(&drawing, 1, &[[3, 0]])?);
     let nowhere = Finger {
@@ -72,6 +81,6 @@ fn finger_of_the_untwisted_torus(rt: HostRuntime) -> Result<(), Fail> {
         side: SideNo::new(1),
         segment: 0,
     };
-    assert!(rt; !push(&mut drawing, &nowhere)?);
+    assert!(rt; !push(&mut drawing, &nowhere));
     Ok(())
 }

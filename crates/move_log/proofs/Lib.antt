@@ -2,4 +2,5 @@ mod Entries
 pub mod Examples
 mod Logs
 mod Numbers
+mod Replays
 mod Words

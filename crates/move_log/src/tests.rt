@@ -1,8 +1,12 @@
-// What no clause says: that a text that is short enough for memory is read and written.
+// What no clause says: that a text that is short enough for memory is read and written, and its fingers are carried out.
+ghost use Rattle.std.specs.Prelude.{◌≡◌, [], ◌∷◌, IfOk};
+ghost use Rattle.page_surface.specs.Polygon.{paired};
 
-use crate::{Log, LogRefusal};
-use drawing::Finger;
-use obd_base::{SideNo, StrandNo};
+use crate::{Log, LogRefusal, ReplayRefusal};
+use drawing::{Drawing, Finger};
+use obd_base::{NoMemory, SideNo, StrandNo};
+use page_surface::Polygon;
+use std::alloc::Global;
 use std::test::Fail;
 
 const TEXT: &[u8] = b"slide 0\nslide 4294967295\nfinger 0 2 3 2\nfinger 1 10 3 1\n";
@@ -48,5 +52,43 @@ fn first_wrong_line_is_named(rt: HostRuntime) -> Result<(), Fail> {
         };
         assert_eq!(rt; refusal, LogRefusal::Form { line }, "{text}");
     }
+    Ok(())
+}
+
+// The sides A, B, A, B.
+fn torus(alloc: Global) -> Result<Polygon, NoMemory>
+    ensures { IfOk result (λ polygon. polygon ≡ paired (2 ∷ 3 ∷ 0 ∷ 1 ∷ [])) }
+{
+    let mut pairs = Vec::new(alloc);
+    pairs.push(SideNo::new(2))?;
+    pairs.push(SideNo::new(3))?;
+    pairs.push(SideNo::new(0))?;
+    pairs.push(SideNo::new(1))?;
+    Polygon::of(alloc, pairs)
+}
+
+// Replays a short log on a small drawing.
+fn replay(log: &Log, drawing: &mut Drawing) -> Result<(), ReplayRefusal> {
+    if drawing.points() > 1000 || log.fingers.len() > 1000 {
+        return Ok(());
+    }
+    log.replay(drawing)
+}
+
+#[test]
+fn replay_ends_before_the_first_illegal_finger(rt: HostRuntime) -> Result<(), Fail> {
+    let alloc = rt.alloc();
+    let text = b"slide 3\nfinger 0 0 1 0\nfinger 0 0 1 0\nfinger 2 0 1 0\nfinger 0 0 1 0\n";
+    let log = match Log::parse(alloc, text) {
+        Ok(log) => log,
+        Err(_) => return Err(Fail::new("refused")),
+    };
+    let polygon = torus(alloc)?;
+    let mut drawing = Drawing::identity(alloc, &polygon)?;
+    assert_eq!(rt;
+        replay(&log, &mut drawing),
+        Err(ReplayRefusal::IllegalMove { number: 2 })
+    );
+    assert_eq!(rt; drawing.points(), 6);
     Ok(())
 }
