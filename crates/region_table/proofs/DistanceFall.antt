@@ -6,7 +6,7 @@ use Rattle.obd_base.specs.Lists.{Mem}
 use Rattle.page_surface.specs.Drawing.{Chord, Drawing, IsEmbedded, chords}
 use Rattle.drawing.specs.Pieces.{is_base, same_piece, span_count}
 use Rattle.region_table.specs.Naming.{IsNaming}
-use Rattle.region_table.proofs.wished.Diagram.{mate}
+use Rattle.drawing.proofs.Diagram.{mate}
 use Rattle.drawing.proofs.Mates.{Joins}
 use Rattle.region_table.proofs.Doors.{chord_or_gap}
 use Rattle.region_table.proofs.Labels.{spans_at}

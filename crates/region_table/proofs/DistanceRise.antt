@@ -7,9 +7,9 @@ use Rattle.page_surface.specs.Drawing.{Chord, Drawing, IsEmbedded, chords}
 use Rattle.drawing.specs.Pieces.{distance, same_piece, span_count}
 use Rattle.drawing.proofs.SamePiece.{same_piece_sym}
 use Rattle.region_table.specs.Naming.{IsNaming}
-use Rattle.region_table.proofs.wished.Diagram.{at_most_one_end, mate}
+use Rattle.drawing.proofs.Diagram.{at_most_one_end, mate}
 use Rattle.drawing.proofs.Mates.{Joins, other_joins}
-use Rattle.region_table.proofs.wished.Orbits.{same_then}
+use Rattle.drawing.proofs.Orbits.{same_then}
 use Rattle.region_table.proofs.Doors.{apart, chord_or_gap, over, turned}
 use Rattle.region_table.proofs.Labels.{IsLevel, StepsDown, label_is_distance, spans_at}
 use Rattle.region_table.proofs.DistanceFall.{FromLater, IsFalling, IsLesser, IsLowered, TellBase, after_in, base_lowered, chord_there, first_after, lower_or_same, one_before}

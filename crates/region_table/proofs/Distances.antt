@@ -14,8 +14,8 @@ use Rattle.drawing.proofs.ChordTree.{beyond-suc}
 use Rattle.drawing.proofs.Lists.{mem_to_map}
 use Rattle.drawing.proofs.Placed.{ends_at, ends_of}
 use Rattle.drawing.proofs.Mates.{Joins, ends_apart, ends_from, proper}
-use Rattle.region_table.proofs.wished.Diagram.{at_most_one_end, simple}
-use Rattle.region_table.proofs.wished.RoundPiece.{gap_of_base}
+use Rattle.drawing.proofs.Diagram.{at_most_one_end, simple}
+use Rattle.drawing.proofs.RoundPiece.{gap_of_base}
 
 -- chords of which no two share an end are different
 once_chords : (cs : List Chord) → ((x : ℕ) → ends_at cs x ≤ 1) → Once cs

@@ -10,12 +10,12 @@ use Rattle.page_surface.specs.Drawing.{Chord, Drawing, IsEmbedded, beyond, chord
 use Rattle.drawing.specs.Pieces.{distance, gap, is_base, same_piece, separated_by, separates, span_count}
 use Rattle.drawing.proofs.SamePiece.{same_piece_refl, same_piece_sym}
 use Rattle.drawing.proofs.Placed.{ends_at}
-use Rattle.region_table.proofs.wished.Ends.{no_end_at_gap}
+use Rattle.drawing.proofs.Ends.{no_end_at_gap}
 use Rattle.drawing.proofs.Mates.{Joins, proper}
-use Rattle.region_table.proofs.wished.Diagram.{chord_at_spot, is_diagram, mate, mate_gap, simple, spot_in, which_place}
-use Rattle.region_table.proofs.wished.CutAlways.{across_chord, no_end_same}
-use Rattle.region_table.proofs.wished.Orbits.{same_then}
-use Rattle.region_table.proofs.wished.RoundPiece.{base_gap, gap_of_base}
+use Rattle.drawing.proofs.Diagram.{chord_at_spot, is_diagram, mate, mate_gap, simple, spot_in, which_place}
+use Rattle.drawing.proofs.CutAlways.{across_chord, no_end_same}
+use Rattle.drawing.proofs.Orbits.{same_then}
+use Rattle.drawing.proofs.RoundPiece.{base_gap, gap_of_base}
 use Rattle.region_table.proofs.Distances.{crossed, distance_crossed, distance_le, distance_same, nearest_gap, separated_same}
 
 -- two tests differ either way round

@@ -16,7 +16,7 @@ use Rattle.region_table.specs.Table.{begins_of}
 use Rattle.region_table.proofs.ChordTables.{start_read}
 use Rattle.region_table.proofs.EdgeWalk.{cut_length}
 use Rattle.region_table.proofs.TablePlaces.{chord_listed, far_end_told}
-use Rattle.region_table.proofs.wished.Ends.{placed}
+use Rattle.drawing.proofs.Ends.{placed}
 
 -- a row is no longer than all rows
 row_short : {X : Type 0} (rows : List (List X)) (i : ℕ) → length (get_or rows i []) ≤ length (flat_map (λ row. row) rows)
@@ -31,7 +31,7 @@ module _ (d : Drawing) (begins : List (List ℕ)) (are : begins ≡ begins_of d)
 
   module _ (i : ℕ) (li : i < arc_count d.polygon) where
     -- where its chords begin
-    row_is : get_or begins i [] ≡ map (λ c. c.from) (strand_chords d i)
+    pub row_is : get_or begins i [] ≡ map (λ c. c.from) (strand_chords d i)
     row_is = ap (λ xs. get_or xs i []) are ∙ get_or-map-range_with_len (λ i. map (λ c. c.from) (strand_chords d i)) 0 (arc_count d.polygon) i i [] li (zero-add i)
 
     strand_long : length (strand_chords d i) ≡ suc (length (strand_exits d i))

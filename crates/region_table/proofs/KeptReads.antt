@@ -1,11 +1,11 @@
 -- What can be read in a table that code keeps.
-use Rattle.std.proofs.Common.{◌≡◌, ℕ, suc, ◌+◌, ◌*◌, ◌<◌, ◌≤◌, ◌^◌, Bool, true, false, cond, eqb, not, ◌||◌, List, [], filter, take, map, length, get_or, sym, ◌∙◌, ap, subst, arith, inl, inr}
+use Rattle.std.proofs.Common.{◌≡◌, ℕ, suc, ◌+◌, ◌*◌, ◌<◌, ◌≤◌, ◌^◌, Bool, true, false, cond, eqb, not, ◌&&◌, ◌||◌, List, [], filter, take, map, length, get_or, refl, sym, ◌∙◌, ap, subst, arith, inl, inr}
 use Rattle.std.proofs.lemmas.List.{get_or_default, take_all}
 use Rattle.std.proofs.lemmas.List.FromFn.{length-map-range_with_len, length-range_with_len}
 use Rattle.std.specs.List.{list_all, sum_by}
-use Rattle.std.proofs.lemmas.Bool.{cases_lt, ne_eqb, not-true}
-use Rattle.std.proofs.lemmas.List.Folds.{list_all_at}
-use Rattle.std.proofs.lemmas.List.Sums.{count_by-le-length, length-filter, sum_by_more_le}
+use Rattle.std.proofs.lemmas.Bool.{cases_lt, eq-eqb, ne_eqb, not-false, not-true}
+use Rattle.std.proofs.lemmas.List.Folds.{list_all_at, list_all_more}
+use Rattle.std.proofs.lemmas.List.Sums.{count_by-le-length, length-filter, sum_by_more, sum_by_more_le}
 use Rattle.std.proofs.Math.Nat.{mul-le-mul_right}
 use Rattle.page_surface.specs.Drawing.{Drawing, chords, offset, strand_chords, strand_exits}
 use Rattle.page_surface.specs.Polygon.{Polygon, arc_count, first_side, partner, sides}
@@ -13,17 +13,17 @@ use Rattle.drawing.specs.Pieces.{same_piece, segments_in, span_count, spans}
 use Rattle.drawing.proofs.Spots.{offset_rises, offset_zero}
 use Rattle.region_table.specs.Ends.{ChordNo, IsKept}
 use Rattle.region_table.specs.Reads.{told_chords, told_crossings, told_points, told_spot}
-use Rattle.region_table.specs.Table.{IsFresh, Region, Table, badness_of, is_good, name_at, region, share, tells_nice, told_weight}
+use Rattle.region_table.specs.Table.{IsFresh, Region, Table, badness_of, is_good, name_at, region, region_in, share, tells_nice, told_weight}
 use Rattle.region_table.proofs.SpanCount.{spans_few}
 use Rattle.region_table.proofs.TableLaws.{name_count, weight_told}
 use Rattle.region_table.proofs.TablePlaces.{begin_told, beside_in, chords_told, points_told, start_told}
 use Rattle.region_table.proofs.TableReads.{arcs_are, points_are, sides_are}
 use Rattle.region_table.proofs.WeightBound.{weight_small}
-use Rattle.region_table.proofs.wished.Diagram.{chord_count}
-use Rattle.region_table.proofs.wished.Ends.{same_count}
+use Rattle.drawing.proofs.Diagram.{chord_count}
+use Rattle.drawing.proofs.Ends.{same_count}
 
 -- what is picked from a list is no longer
-filter_short : {X : Type 0} (p : X → Bool) (xs : List X) → length (filter p xs) ≤ length xs
+pub filter_short : {X : Type 0} (p : X → Bool) (xs : List X) → length (filter p xs) ≤ length xs
 filter_short p xs = omega (arith, length-filter p xs, count_by-le-length p xs)
 
 module _ (t : Table) (ends : List ChordNo) (kept : IsKept t ends) where
@@ -112,9 +112,8 @@ region_seen t regions p n x same e l is =
     is ∙ (ap (λ k. get_or regions k x) e ∙ (ap (λ rs. get_or rs p x) same ∙ get_or_default t.regions p x (record { base = false; first = 0; size = 0; distance = 0 }) l))
 
 -- the row of a strand as it is read
-pub row_seen : (t : Table) (begins : List (List ℕ)) (i n : ℕ) (row x : List ℕ) → begins ≡ t.begins → n ≡ i → i < length t.begins → row ≡ x → x ≡ get_or begins n x → row ≡ get_or t.begins i []
-row_seen t begins i n row x same e l r is =
-    r ∙ (is ∙ (ap (λ k. get_or begins k x) e ∙ (ap (λ rs. get_or rs i x) same ∙ get_or_default t.begins i x [] l)))
+pub row_seen : (t : Table) (begins : List (List ℕ)) (i n : ℕ) (row : List ℕ) → begins ≡ t.begins → n ≡ i → row ≡ get_or begins n [] → row ≡ get_or t.begins i []
+row_seen t begins i n row same e is = is ∙ (ap (λ k. get_or begins k []) e ∙ ap (λ rs. get_or rs i []) same)
 
 -- a row for each strand
 pub rows_known : (t : Table) (ends : List ChordNo) → IsKept t ends → length t.begins ≡ arc_count t.polygon
@@ -139,25 +138,56 @@ few_weight t ends kept fresh =
     omega (arith, weight_told d t fresh.table fresh.distances, weight_small d ok, a, chords_few)
 
 -- what the next piece adds to the weight so far is within the whole
-pub next_share : (regions : List Region) (i : ℕ) (seen x : Region) (bad : ℕ) → seen ≡ x → x ≡ get_or regions i x → i < length regions → not seen.base ≡ true → bad ≡ badness_of seen
+pub next_share : (regions : List Region) (i : ℕ) (seen : Region) (bad : ℕ) → seen ≡ region_in regions i → i < length regions → not seen.base ≡ true → bad ≡ badness_of seen
     → sum_by share (take i regions) + bad * seen.distance ≤ sum_by share regions
-next_share regions i seen x bad same is l inner e =
-    let here : share (get_or regions i x) ≡ bad * seen.distance = ap share (sym is ∙ sym same) ∙ (ap (λ b. cond b 0 (badness_of seen * seen.distance)) (not-true _ inner) ∙ ap (λ n. n * seen.distance) (sym e)) in
-    omega (arith, sum_by_more_le share regions i x l, here)
+next_share regions i seen bad same l inner e =
+    let here : share (region_in regions i) ≡ bad * seen.distance = ap share (sym same) ∙ (ap (λ b. cond b 0 (badness_of seen * seen.distance)) (not-true _ inner) ∙ ap (λ n. n * seen.distance) (sym e)) in
+    omega (arith, sum_by_more_le share regions i (record { base = false; first = 0; size = 0; distance = 0 }) l, here)
+
+-- and is added,
+pub share_more : (regions : List Region) (i n : ℕ) (seen : Region) (bad : ℕ) → seen ≡ region_in regions i → i < length regions → not seen.base ≡ true → bad ≡ badness_of seen
+    → n ≡ sum_by share (take i regions) → n + bad * seen.distance ≡ sum_by share (take (i + 1) regions)
+share_more regions i n seen bad same l inner e is =
+    let here : share (region_in regions i) ≡ bad * seen.distance = ap share (sym same) ∙ (ap (λ b. cond b 0 (badness_of seen * seen.distance)) (not-true _ inner) ∙ ap (λ n. n * seen.distance) (sym e)) in
+    omega (arith, sum_by_more share regions i (record { base = false; first = 0; size = 0; distance = 0 }) l, here, is)
+
+-- but a base piece adds none
+pub share_none : (regions : List Region) (i n : ℕ) (seen : Region) → seen ≡ region_in regions i → i < length regions → not seen.base ≡ false
+    → n ≡ sum_by share (take i regions) → n ≡ sum_by share (take (i + 1) regions)
+share_none regions i n seen same l base is =
+    let here : share (region_in regions i) ≡ 0 = ap share (sym same) ∙ ap (λ b. cond b 0 (badness_of seen * seen.distance)) (not-false _ base) in
+    omega (arith, sum_by_more share regions i (record { base = false; first = 0; size = 0; distance = 0 }) l, here, is)
 
 -- all pieces are read
-pub nice_done : (t : Table) (regions : List Region) (i : ℕ) → regions ≡ t.regions → length regions ≤ i → list_all is_good (take i regions) ≡ true → true ≡ tells_nice t
-nice_done t regions i same done good = sym (ap (list_all is_good) (sym same) ∙ (ap (list_all is_good) (sym (take_all i regions done)) ∙ good))
+pub nice_done : (t : Table) (i : ℕ) → length t.regions ≤ i → list_all is_good (take i t.regions) ≡ true → true ≡ tells_nice t
+nice_done t i done good = sym (ap (list_all is_good) (sym (take_all i t.regions done)) ∙ good)
 
 -- one of them is bad
-pub nice_not : (t : Table) (regions : List Region) (i : ℕ) (seen x : Region) → regions ≡ t.regions → seen ≡ x → x ≡ get_or regions i x → i < length regions → not seen.base ≡ true → 2 < seen.size → false ≡ tells_nice t
-nice_not t regions i seen x all same is l inner many =
-    let bad : is_good (get_or regions i x) ≡ false = ap is_good (sym is ∙ sym same) ∙ (ap (λ b. b || eqb (badness_of seen) 0) (not-true _ inner) ∙ ne_eqb (badness_of seen) 0 (λ e. absurd (omega (arith, e, many)))) in
-    sym (ap (list_all is_good) (sym all) ∙ list_all_at is_good regions i x l bad)
+pub nice_not : (t : Table) (i : ℕ) (seen : Region) → seen ≡ region_in t.regions i → i < length t.regions → not seen.base ≡ true → 2 < seen.size → false ≡ tells_nice t
+nice_not t i seen same l inner many =
+    let bad : is_good (region_in t.regions i) ≡ false = ap is_good (sym same) ∙ (ap (λ b. b || eqb (badness_of seen) 0) (not-true _ inner) ∙ ne_eqb (badness_of seen) 0 (λ e. absurd (omega (arith, e, many)))) in
+    sym (list_all_at is_good t.regions i (record { base = false; first = 0; size = 0; distance = 0 }) l bad)
+
+-- the next one is good
+pub nice_more : (regions : List Region) (i : ℕ) (seen : Region) → seen ≡ region_in regions i → i < length regions → is_good seen ≡ true → list_all is_good (take i regions) ≡ true
+    → list_all is_good (take (i + 1) regions) ≡ true
+nice_more regions i seen same l good all =
+    list_all_more is_good regions i (record { base = false; first = 0; size = 0; distance = 0 }) l ∙ (ap (λ b. b && is_good (region_in regions i)) all ∙ (ap is_good (sym same) ∙ good))
+
+-- a base piece is good, and so is one with few segments
+pub base_good : (seen : Region) → not seen.base ≡ false → is_good seen ≡ true
+base_good seen base = ap (λ b. b || eqb (badness_of seen) 0) (not-false _ base)
+
+pub few_good : (seen : Region) → seen.size ≤ 2 → is_good seen ≡ true
+few_good seen few = ap (λ b. seen.base || b) (eq-eqb (badness_of seen) 0 (omega (arith, few))) ∙ or-true seen.base
+  where
+    or-true : (b : Bool) → (b || true) ≡ true
+    or-true true = refl
+    or-true false = refl
 
 -- the whole weight is added
-pub weight_done : (t : Table) (regions : List Region) (i n : ℕ) → regions ≡ t.regions → length regions ≤ i → n ≡ sum_by share (take i regions) → n ≡ told_weight t
-weight_done t regions i n same done is = is ∙ (ap (sum_by share) (take_all i regions done) ∙ ap (sum_by share) same)
+pub weight_done : (t : Table) (i n : ℕ) → length t.regions ≤ i → n ≡ sum_by share (take i t.regions) → n ≡ told_weight t
+weight_done t i n done is = is ∙ ap (sum_by share) (take_all i t.regions done)
 
 module _ (t : Table) (ends : List ChordNo) (kept : IsKept t ends) where
   -- the first side begins at 0,

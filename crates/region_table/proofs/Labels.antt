@@ -4,7 +4,7 @@ use Rattle.std.proofs.lemmas.List.Sums.{count_by-le-length}
 use Rattle.obd_base.specs.Lists.{Mem}
 use Rattle.page_surface.specs.Drawing.{Chord, Drawing, IsEmbedded, chords}
 use Rattle.drawing.specs.Pieces.{distance, gap, is_base, same_piece, separates, span_count}
-use Rattle.region_table.proofs.wished.CutAlways.{chord_spans}
+use Rattle.drawing.proofs.CutAlways.{chord_spans}
 use Rattle.drawing.proofs.Mates.{Joins}
 use Rattle.region_table.proofs.Distances.{label_bounds, nearest_gap}
 use Rattle.region_table.proofs.Doors.{base_from_zero, door}

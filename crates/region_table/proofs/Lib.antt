@@ -1,4 +1,4 @@
-mod ChordTables
+pub mod ChordTables
 mod CountedTable
 mod CountSteps
 mod DistanceCode
@@ -11,26 +11,32 @@ mod EdgeReads
 pub mod EdgeWalk
 mod EndTables
 pub mod Examples
+pub mod FingerExamples
+pub mod fingers
 mod FrameTables
 mod FreshTable
+pub mod KeptLaws
 mod KeptReads
 pub mod Labels
 pub mod NamingLaws
 mod ListedSteps
 mod MadeTable
-mod NumberSteps
+pub mod NumberSteps
 mod NumberSweep
 mod QuadrantReads
 mod RisingLists
+mod RoomTables
+mod RowTables
 mod SameMembers
 mod SegmentReads
-mod SpanCount
+pub mod SpanCount
 pub mod TableLaws
 pub mod TableNames
 pub mod TablePlaces
 pub mod TableReads
 pub mod Tests
+mod ToldLists
 mod ToldSteps
 mod ToldTables
 pub mod WeightBound
-mod wished
+mod Written

@@ -8,16 +8,18 @@ use Rattle.region_table.specs.Counted.{AreTold, size_so_far}
 use Rattle.region_table.specs.Ends.{ChordNo, IsFrameOf, IsKept, shown}
 use Rattle.region_table.specs.Naming.{fresh_names}
 use Rattle.region_table.specs.Table.{IsTableOf, Region, region_in}
+use Rattle.std.proofs.lemmas.List.FromFn.{length-range_with_len}
 use Rattle.region_table.proofs.CountedTable.{fresh_is_table}
+use Rattle.region_table.proofs.KeptReads.{filter_short}
 use Rattle.region_table.proofs.ToldTables.{named, told_below}
-use Rattle.region_table.proofs.wished.PieceCount.{piece_count}
+use Rattle.drawing.proofs.PieceCount.{piece_count}
 
-module _ (d : Drawing) (ok : IsEmbedded d) (polygon : Polygon) (starts names mates : List ℕ) (begins : List (List ℕ)) (regions : List Region) (inner : List ℕ) (ends : List ChordNo)
+module _ (d : Drawing) (ok : IsEmbedded d) (polygon : Polygon) (starts names mates : List ℕ) (begins : List (List ℕ)) (regions : List Region) (inner : List ℕ) (room : ℕ) (ends : List ChordNo)
     (same : polygon ≡ d.polygon) (frame : IsFrameOf d starts mates begins ends) (are : names ≡ fresh_names d) (told : AreTold d names regions)
     (left : inner ≡ filter (λ p. not (region_in regions p).base) (below (length regions))) where
   -- it is
-  pub made_is_table : IsTableOf d (shown polygon starts names mates begins regions inner)
-  made_is_table = fresh_is_table d ok (shown polygon starts names mates begins regions inner) (record {
+  pub made_is_table : IsTableOf d (shown polygon starts names mates begins regions inner room)
+  made_is_table = fresh_is_table d ok (shown polygon starts names mates begins regions inner room) (record {
     polygon = same;
     starts = frame.starts_are;
     mates = frame.mates_are;
@@ -30,8 +32,13 @@ module _ (d : Drawing) (ok : IsEmbedded d) (polygon : Polygon) (starts names mat
   }) are told.count
 
   -- and can be kept
-  pub made_is_kept : sides d.polygon ≤ 16 → length (all_exits d) < 2 ^ 28 → IsKept (shown polygon starts names mates begins regions inner) ends
+  pub made_is_kept : sides d.polygon ≤ 16 → length (all_exits d) < 2 ^ 28 → IsKept (shown polygon starts names mates begins regions inner room) ends
   made_is_kept few_sides few = record { drawing = d; embedded = ok; few_sides = few_sides; few = few; table = made_is_table; as_many = frame.as_many; known = frame.known }
+
+-- no more names are left than there are pieces
+pub inner_short : (inner : List ℕ) (regions : List Region) → inner ≡ filter (λ p. not (region_in regions p).base) (below (length regions)) → length inner ≤ length regions
+inner_short inner regions is =
+    omega (arith, ap length is, filter_short (λ p. not (region_in regions p).base) (below (length regions)), length-range_with_len 0 (length regions))
 
 -- there are few pieces
 pub few_told : (d : Drawing) → IsEmbedded d → (names : List ℕ) (regions : List Region) → AreTold d names regions → sides d.polygon ≤ 16 → length (all_exits d) < 2 ^ 28 → length regions < 2 ^ 32

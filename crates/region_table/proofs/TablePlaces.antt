@@ -16,11 +16,11 @@ use Rattle.drawing.proofs.TreeLaws.{two_sides}
 use Rattle.obd_base.proofs.lists.Below.{below_mem}
 use Rattle.region_table.specs.Table.{IsTableOf, Table, name_at}
 use Rattle.region_table.proofs.EdgeWalk.{cut_length, mem_of_place}
-use Rattle.region_table.proofs.wished.CutAlways.{chord_spans}
-use Rattle.region_table.proofs.wished.Diagram.{at_most_one_end, spot_in}
+use Rattle.drawing.proofs.CutAlways.{chord_spans}
+use Rattle.drawing.proofs.Diagram.{at_most_one_end, spot_in}
 use Rattle.drawing.proofs.Mates.{other_joins}
-use Rattle.region_table.proofs.wished.Ends.{same_count}
-use Rattle.region_table.proofs.wished.PieceCount.{same_name}
+use Rattle.drawing.proofs.Ends.{same_count}
+use Rattle.drawing.proofs.PieceCount.{same_name}
 use Rattle.drawing.proofs.Spots.{offset_suc}
 
 module _ (d : Drawing) (t : Table) (told : IsTableOf d t) where

@@ -58,6 +58,6 @@ pub record IsKept (t : Table) (ends : List ChordNo) : Type 0 where
   pub as_many : length ends ≡ length t.mates
   pub known : KnowsEnds t.begins t.mates ends
 
--- the table of some lists
-abbrev pub shown : Polygon → List ℕ → List ℕ → List ℕ → List (List ℕ) → List Region → List ℕ → Table
-shown polygon starts names mates begins regions inner = record { polygon = polygon; starts = starts; names = names; mates = mates; begins = begins; regions = regions; inner = inner }
+-- the table of some lists, with room for some fingers
+abbrev pub shown : Polygon → List ℕ → List ℕ → List ℕ → List (List ℕ) → List Region → List ℕ → ℕ → Table
+shown polygon starts names mates begins regions inner room = record { polygon = polygon; starts = starts; names = names; mates = mates; begins = begins; regions = regions; inner = inner; room = room }

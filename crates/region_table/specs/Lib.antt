@@ -1,9 +1,14 @@
+pub mod Changed
 pub mod Counted
 pub mod EdgeKinds
 pub mod Edges
 pub mod Ends
+pub mod FingerLists
 pub mod Listed
 pub mod Naming
 pub mod Nice
 pub mod Reads
+pub mod Room
+pub mod Rows
 pub mod Table
+pub mod Told

@@ -18,8 +18,8 @@ pub record Region : Type 0 where
   pub distance : ℕ
 
 -- a table: the polygon, where its sides begin in the place order, the name of the piece of each span, the other end of
--- the chord at each number, where the chords of each strand begin, the pieces by their names, and the names of those
--- that aren't base
+-- the chord at each number, where the chords of each strand begin, the pieces by their names, the names of those that
+-- aren't base, and for how many fingers there is room
 pub record Table : Type 0 where
   pub polygon : Polygon
   pub starts : List ℕ
@@ -28,6 +28,7 @@ pub record Table : Type 0 where
   pub begins : List (List ℕ)
   pub regions : List Region
   pub inner : List ℕ
+  pub room : ℕ
 
 -- where the chords of each strand begin
 abbrev pub begins_of : Drawing → List (List ℕ)
@@ -49,7 +50,14 @@ region t p = region_in t.regions p
 abbrev pub region_at : Table → ℕ → Region
 region_at t s = region t (name_at t s)
 
--- the table of a drawing, its distances left aside
+-- pieces that differ in their distances alone
+pub record DifferInDistance (before after : List Region) : Type 0 where
+  pub count : length after ≡ length before
+  pub base : (p : ℕ) → (region_in after p).base ≡ (region_in before p).base
+  pub first : (p : ℕ) → (region_in after p).first ≡ (region_in before p).first
+  pub size : (p : ℕ) → (region_in after p).size ≡ (region_in before p).size
+
+-- the table of a drawing, its distances and its room left aside
 pub record IsTableOf (d : Drawing) (t : Table) : Type 0 where
   pub polygon : t.polygon ≡ d.polygon
   pub starts : t.starts ≡ offsets_of d

@@ -6,8 +6,9 @@ ghost use Rattle.drawing.specs.Layout.{offsets_of};
 ghost use Rattle.drawing.specs.Pieces.{span_count};
 ghost use Rattle.region_table.specs.Table.{begins_of};
 
+use crate::rows::Rows;
 use drawing::Drawing;
-use obd_base::{ArcNo, Exit, Items, NoMemory, SideNo, StrandNo};
+use obd_base::{ArcNo, Exit, NoMemory, SideNo, StrandNo};
 use std::alloc::Global;
 use std::marker::Model;
 
@@ -31,8 +32,8 @@ impl Model for Chord {
 // Where each side begins in the place order, and where the last one ends: a side takes two numbers more than it has
 // points. Linear in the sides.
 pub(crate) fn side_starts(alloc: Global, drawing: &Drawing) -> Result<Vec<u32>, NoMemory>
-    requires { span_count drawing.now < 2 ^ 30 }
-    ensures { IfOk result (λ starts. starts.items ≡ offsets_of drawing.now) }
+    requires { span_count drawing.now.drawing < 2 ^ 30 }
+    ensures { IfOk result (λ starts. starts.items ≡ offsets_of drawing.now.drawing) }
 {
     let mut starts = Vec::new(alloc);
     let mut start: u32 = 0;
@@ -69,8 +70,8 @@ fn chord_between(starts: &[u32], from: Exit, to: Exit) -> Chord
 
 // The end of a side.
 fn end_of(drawing: &Drawing, side: SideNo) -> Exit
-    requires { side < sides drawing.now.polygon }
-    ensures { result ≡ end_of drawing.now side }
+    requires { side < sides drawing.now.drawing.polygon }
+    ensures { result ≡ end_of drawing.now.drawing side }
 {
     Exit {
         side,
@@ -80,9 +81,9 @@ fn end_of(drawing: &Drawing, side: SideNo) -> Exit
 
 // The entry that belongs to an exit.
 fn entry(drawing: &Drawing, exit: Exit) -> Exit
-    requires side { exit.side < sides drawing.now.polygon }
-    requires place { exit.place < points_on drawing.now exit.side }
-    ensures { result ≡ entry drawing.now exit }
+    requires side { exit.side < sides drawing.now.drawing.polygon }
+    requires place { exit.place < points_on drawing.now.drawing exit.side }
+    ensures { result ≡ entry drawing.now.drawing exit }
 {
     Exit {
         side: drawing.polygon().pair(exit.side),
@@ -97,11 +98,11 @@ pub(crate) fn strand_chords(
     starts: &[u32],
     strand: StrandNo,
 ) -> Result<Vec<Chord>, NoMemory>
-    requires embedded { IsEmbedded drawing.now }
-    requires few { span_count drawing.now < 2 ^ 30 }
-    requires starts { starts.now ≡ offsets_of drawing.now }
-    requires strand { strand < arc_count drawing.now.polygon }
-    ensures { IfOk result (λ chords. chords.items ≡ strand_chords drawing.now strand) }
+    requires embedded { IsEmbedded drawing.now.drawing }
+    requires few { span_count drawing.now.drawing < 2 ^ 30 }
+    requires starts { starts.now ≡ offsets_of drawing.now.drawing }
+    requires strand { strand < arc_count drawing.now.drawing.polygon }
+    ensures { IfOk result (λ chords. chords.items ≡ strand_chords drawing.now.drawing strand) }
 {
     let polygon = drawing.polygon();
     let first_side = polygon.first_side(ArcNo::new(strand.number()));
@@ -117,10 +118,10 @@ pub(crate) fn strand_chords(
 }
 
 // Where some chords begin.
-fn beginnings(alloc: Global, chords: &[Chord]) -> Result<Items<u32>, NoMemory>
-    ensures { IfOk result (λ begins. begins ≡ map (λ c. c.from) chords.now) }
+fn beginnings(alloc: Global, chords: &[Chord]) -> Result<Vec<u32>, NoMemory>
+    ensures { IfOk result (λ begins. begins.items ≡ map (λ c. c.from) chords.now) }
 {
-    let mut begins = Items::new(alloc);
+    let mut begins = Vec::new(alloc);
     for chord in chords {
         begins.push(chord.from)?;
     }
@@ -133,15 +134,16 @@ pub(crate) fn read_chords(
     drawing: &Drawing,
     starts: &[u32],
     all: &mut Vec<Chord>,
-    begins: &mut Vec<Items<u32>>,
+    begins: &mut Rows,
 ) -> Result<(), NoMemory>
-    requires embedded { IsEmbedded drawing.now }
-    requires few { span_count drawing.now < 2 ^ 30 }
-    requires starts { starts.now ≡ offsets_of drawing.now }
+    requires embedded { IsEmbedded drawing.now.drawing }
+    requires few { span_count drawing.now.drawing < 2 ^ 30 }
+    requires starts { starts.now ≡ offsets_of drawing.now.drawing }
     requires no_chords { all.old.items ≡ [] }
-    requires no_begins { begins.old.items ≡ [] }
-    ensures chords { OnOk result (all.new.items ≡ chords drawing.now) }
-    ensures begins { OnOk result (begins.new.items ≡ begins_of drawing.now) }
+    requires no_begins { begins.old ≡ record { lists = []; room = 0 } }
+    ensures chords { OnOk result (all.new.items ≡ chords drawing.now.drawing) }
+    ensures begins { OnOk result (begins.new.lists ≡ begins_of drawing.now.drawing) }
+    ensures room { begins.new.room ≡ 0 }
 {
     for strand in 0..drawing.polygon().sides() / 2 {
         let chords = strand_chords(alloc, drawing, starts, StrandNo::new(strand))?;

@@ -16,10 +16,10 @@ pub(crate) fn number_pieces(
     drawing: &Drawing,
     mates: &[u32],
 ) -> Result<Vec<u32>, NoMemory>
-    requires embedded { IsEmbedded drawing.now }
-    requires mates { mates.now ≡ map (other_end (chords drawing.now)) (spans drawing.now) }
-    requires few { span_count drawing.now < 2 ^ 30 }
-    ensures { IfOk result (λ names. names.items ≡ fresh_names drawing.now) }
+    requires embedded { IsEmbedded drawing.now.drawing }
+    requires mates { mates.now ≡ map (other_end (chords drawing.now.drawing)) (spans drawing.now.drawing) }
+    requires few { span_count drawing.now.drawing < 2 ^ 30 }
+    ensures { IfOk result (λ names. names.items ≡ fresh_names drawing.now.drawing) }
 {
     let mut names: Vec<u32> = Vec::new(alloc);
     names.push(0)?;

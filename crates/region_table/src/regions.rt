@@ -1,20 +1,25 @@
 // The table of a drawing's regions.
-ghost use Rattle.std.specs.Prelude.{◌≡◌, ℕ, suc, ◌<◌, ◌≤◌, false, length, slice_index, IfOk};
+ghost use Rattle.std.specs.Prelude.{◌≡◌, ℕ, List, suc, ◌<◌, ◌≤◌, false, length, max, slice_index, IfOk, OnErr, OnOk};
 ghost use Rattle.page_surface.specs.Drawing.{Drawing as Shown, IsEmbedded, exit, spot};
 ghost use Rattle.page_surface.specs.Polygon.{arc_count, first_side, sides};
+ghost use Rattle.drawing.specs.Fingers.{IsLegal, pushed};
 ghost use Rattle.drawing.specs.Pieces.{badness, corners, distance, is_base, segments_in, span_count};
+ghost use Rattle.region_table.specs.Changed.{AreChanged, KeepsNames};
 ghost use Rattle.region_table.specs.EdgeKinds.{IsEdge};
 ghost use Rattle.region_table.specs.Edges.{names_beside, to_names};
+ghost use Rattle.region_table.specs.FingerLists.{IsPush};
 ghost use Rattle.region_table.specs.Nice.{is_nice, weight};
 ghost use Rattle.region_table.specs.Reads.{from_options, told_chords, told_crossings, told_points, told_spot};
-ghost use Rattle.region_table.specs.Table.{HasDistances, IsFresh, IsTableOf, badness_of, corners_of, name_at, region, tells_nice, told_weight};
+ghost use Rattle.region_table.specs.Table.{DifferInDistance, HasDistances, IsFresh, IsTableOf, badness_of, corners_of, name_at, region, tells_nice, told_weight};
 
 use crate::edge::Edge;
-use crate::frame::{Frame, frame_of};
-use crate::listing::{Listing, listing_of};
+use crate::entries::{Push, write_names};
+use crate::entry::Entry;
+use crate::frame::{Frame, frame_of, reserve_frame, write_frame};
+use crate::listing::{Listing, grow_listing, list_anew, listing_of, reserve_listing};
 use crate::names::number_pieces;
-use crate::told::{Region, inner_names, told_regions};
-use drawing::Drawing;
+use crate::told::{Told, inner_names, put_inner, told_of};
+use drawing::{Drawing, Finger};
 use obd_base::{NoMemory, PieceNo, Point, SideNo, StrandNo};
 use page_surface::Polygon;
 use std::alloc::Global;
@@ -29,8 +34,9 @@ pub struct Regions {
     frame: Frame,
     listing: Listing,
     names: Vec<u32>,
-    regions: Vec<Region>,
+    told: Told,
     inner: Vec<PieceNo>,
+    room: u32,
 }
 
 // By hand, so that a caller's proof holds one call and not the drop of each field.
@@ -41,22 +47,25 @@ impl Drop for Regions {
             frame: _frame,
             listing: _listing,
             names: _names,
-            regions: _regions,
+            told: _told,
             inner: _inner,
+            room: _room,
         } = self;
     }
 }
 
 impl Model for Regions {
-    ghost use Rattle.region_table.specs.Table.{Table};
+    ghost use Rattle.std.specs.Prelude.{length};
     ghost use Rattle.region_table.specs.Ends.{shown};
     ghost use Rattle.region_table.specs.Listed.{IsKeptListed};
+    ghost use Rattle.region_table.specs.Room.{HasRoom};
+    ghost use Rattle.region_table.specs.Table.{Table};
 
     ghost Value = { Table };
 
-    ghost view = { λ r. shown r.polygon r.frame.starts.items r.names.items r.frame.mates.items r.frame.begins.items r.regions.items r.inner.items };
+    ghost view = { λ r. shown r.polygon r.frame.starts.items r.names.items r.frame.mates.items r.frame.begins.lists r.told.regions r.inner.items r.room };
 
-    ghost invariant = { λ r. IsKeptListed (shown r.polygon r.frame.starts.items r.names.items r.frame.mates.items r.frame.begins.items r.regions.items r.inner.items) r.frame.ends.items r.listing.starts.items r.listing.spans.items };
+    ghost invariant = { λ r. IsKeptListed (shown r.polygon r.frame.starts.items r.names.items r.frame.mates.items r.frame.begins.lists r.told.regions r.inner.items r.room) r.frame.ends.items r.listing.starts.items r.listing.spans.items × HasRoom r.room (length r.told.regions) r.names r.frame.mates r.frame.ends r.frame.begins.room r.told.room r.listing.starts r.listing.next r.listing.spans r.inner };
 }
 
 impl Regions {
@@ -64,25 +73,116 @@ impl Regions {
     ///
     /// Linear in the points and sides, time and memory: with 44,000 points about 2 milliseconds and 4 megabytes.
     pub fn of(alloc: Global, drawing: &Drawing) -> Result<Regions, NoMemory>
-        ensures table { IfOk result (λ regions. IsTableOf drawing.now regions) }
-        ensures distances { IfOk result (λ regions. HasDistances drawing.now regions) }
+        ensures table { IfOk result (λ regions. IsTableOf drawing.now.drawing regions) }
+        ensures distances { IfOk result (λ regions. HasDistances drawing.now.drawing regions) }
     {
         let _ = drawing.points();
         let _ = drawing.polygon().sides();
         let polygon = drawing.polygon().copy()?;
         let frame = frame_of(alloc, drawing)?;
         let names = number_pieces(alloc, drawing, &frame.mates)?;
-        let regions = told_regions(alloc, drawing, &frame.starts, &frame.mates, &names)?;
-        let inner = inner_names(alloc, &regions)?;
-        let listing = listing_of(alloc, &names, &regions)?;
+        let told = told_of(alloc, drawing, &frame.starts, &frame.mates, &names)?;
+        let inner = inner_names(alloc, &told)?;
+        let listing = listing_of(alloc, &names, &told)?;
         Ok(Regions {
             polygon,
             frame,
             listing,
             names,
-            regions,
+            told,
             inner,
+            room: 0,
         })
+    }
+
+    /// Takes room for so many fingers, so that `after_finger` takes no memory for them: for four spans and two pieces
+    /// more each. The table stays as it is, also after a refusal. Linear in the pieces and spans.
+    pub fn reserve(&mut self, fingers: u32) -> Result<(), NoMemory>
+        ensures ok { OnOk result (self.new.room ≡ max self.old.room fingers) }
+        ensures err { OnErr result (self.new.room ≡ self.old.room) }
+        ensures kept { self.new ≡ record self.old { room = self.new.room } }
+    {
+        self.names.try_reserve(4 * fingers as usize)?;
+        reserve_frame(&mut self.frame, fingers)?;
+        self.told.reserve(fingers)?;
+        reserve_listing(&mut self.listing, fingers)?;
+        let more = self.told.len() - self.inner.len() + 2 * fingers as usize;
+        self.inner.try_reserve(more)?;
+        if self.room < fingers {
+            self.room = fingers;
+        }
+        Ok(())
+    }
+
+    // A finger by numbers of the place order.
+    fn push_of(&self, finger: &Finger) -> Push
+        requires { (d : Shown) × IsEmbedded d × IsLegal d finger.now × IsTableOf d self.now }
+        ensures { (d : Shown) → IsEmbedded d → IsLegal d finger.now → IsTableOf d self.now → IsPush d finger.now result.from result.near result.far result.entry.entered result.entry.beyond result.out }
+    {
+        let entered = self.spot(finger.side, finger.segment);
+        let past = self.points_on(finger.side) - finger.segment;
+        let beyond = self.spot(self.polygon.pair(finger.side), past);
+        let from = self.frame.begins.row(finger.strand.number() as usize)[finger.chord as usize];
+        let to = self.frame.mates[from as usize];
+        let entry = Entry { entered, beyond };
+        if self.names[entered as usize] == self.names[from as usize] {
+            Push {
+                from,
+                near: to,
+                far: from,
+                entry,
+                out: 1,
+            }
+        } else {
+            Push {
+                from,
+                near: from,
+                far: to,
+                entry,
+                out: 0,
+            }
+        }
+    }
+
+    /// Makes the table that of the drawing after a finger, from that of the drawing before. The distances are stale then,
+    /// so `distance` and `weight` wait for `measure`. Each piece that the finger keeps has the name that it had, and every
+    /// other piece has a name that no kept piece has. Answers how many pieces changed or are new: four or five.
+    ///
+    /// Takes no memory: it uses up the room for a finger (see `reserve`). Linear in the points and sides.
+    pub fn after_finger(&mut self, drawing: &Drawing, finger: &Finger) -> u32
+        requires before { (d : Shown) × IsEmbedded d × IsLegal d finger.now × IsTableOf d self.old × (drawing.now.drawing ≡ pushed d finger.now) }
+        requires room { 1 ≤ self.old.room }
+        ensures table { IsTableOf drawing.now.drawing self.new }
+        ensures kept { (d : Shown) → IsEmbedded d → IsLegal d finger.now → IsTableOf d self.old → drawing.now.drawing ≡ pushed d finger.now → KeepsNames d finger.now self.old self.new }
+        ensures changed { (d : Shown) → IsEmbedded d → IsLegal d finger.now → IsTableOf d self.old → drawing.now.drawing ≡ pushed d finger.now → (ps : List ℕ) × AreChanged d finger.now self.new ps × (length ps ≡ result) }
+        ensures at_most { result ≤ 5 }
+        ensures room { suc self.new.room ≡ self.old.room }
+    {
+        let _ = drawing.points();
+        let _ = drawing.polygon().sides();
+        let push = self.push_of(finger);
+        let behind = self.name(push.near);
+        let past = self.name(push.entry.beyond);
+        write_names(&mut self.names, push, self.told.len() as u32);
+        write_frame(&mut self.frame, drawing, finger, push);
+        self.told.grow();
+        self.told.count(drawing, &self.frame.starts, &self.names);
+        put_inner(&self.told, &mut self.inner);
+        grow_listing(&mut self.listing);
+        list_anew(&self.names, &self.told, &mut self.listing);
+        self.room -= 1;
+        if past == behind { 4 } else { 5 }
+    }
+
+    /// Makes the distances fresh. All else stays, names among it. Takes no memory. Linear in the points and sides.
+    pub fn measure(&mut self)
+        ensures fresh { IsFresh self.new }
+        ensures distances { (d : Shown) → IsEmbedded d → IsTableOf d self.old → HasDistances d self.new }
+        ensures table { (d : Shown) → IsTableOf d self.old → IsTableOf d self.new }
+        ensures kept { self.new ≡ record self.old { regions = self.new.regions } }
+        ensures others { DifferInDistance self.old.regions self.new.regions }
+    {
+        self.told.measure(&self.names, &self.frame.mates);
     }
 
     // The number of a segment in the place order.
@@ -130,8 +230,29 @@ impl Regions {
         ensures told { result ≡ (region self.now piece).base }
         ensures value { (d : Shown) (s : ℕ) → IsTableOf d self.now → s < span_count d → name_at self.now s ≡ piece → result ≡ is_base d s }
     {
-        let region = self.regions[piece.number() as usize];
+        let region = self.told.region(piece.number() as usize);
         region.base
+    }
+
+    /// The name of the piece of each span, by the spans' numbers in the place order.
+    pub fn span_names(&self) -> &[u32]
+        ensures { result.now ≡ self.now.names }
+    {
+        &self.names
+    }
+
+    /// The other end of the chord that ends at each number of the place order, and the number itself where none ends.
+    pub fn other_ends(&self) -> &[u32]
+        ensures { result.now ≡ self.now.mates }
+    {
+        &self.frame.mates
+    }
+
+    /// Where each side begins in the place order, and where the last one ends.
+    pub fn side_starts(&self) -> &[u32]
+        ensures { result.now ≡ self.now.starts }
+    {
+        &self.frame.starts
     }
 
     /// The number of corners of a piece that isn't base: twice as many as it has segments.
@@ -141,7 +262,7 @@ impl Regions {
         ensures told { result ≡ corners_of (region self.now piece) }
         ensures value { (d : Shown) (s : ℕ) → IsTableOf d self.now → s < span_count d → name_at self.now s ≡ piece → result ≡ corners d s }
     {
-        let region = self.regions[piece.number() as usize];
+        let region = self.told.region(piece.number() as usize);
         2 * region.size
     }
 
@@ -152,7 +273,7 @@ impl Regions {
         ensures told { result ≡ badness_of (region self.now piece) }
         ensures value { (d : Shown) (s : ℕ) → IsTableOf d self.now → s < span_count d → name_at self.now s ≡ piece → result ≡ badness d s }
     {
-        let region = self.regions[piece.number() as usize];
+        let region = self.told.region(piece.number() as usize);
         region.size.saturating_sub(2)
     }
 
@@ -164,7 +285,7 @@ impl Regions {
         ensures told { result ≡ (region self.now piece).distance }
         ensures value { (d : Shown) (s : ℕ) → HasDistances d self.now → s < span_count d → name_at self.now s ≡ piece → result ≡ distance d s }
     {
-        let region = self.regions[piece.number() as usize];
+        let region = self.told.region(piece.number() as usize);
         region.distance
     }
 
@@ -182,7 +303,7 @@ impl Regions {
         requires chord { chord < told_chords self.now strand }
         ensures { (d : Shown) → IsTableOf d self.now → result ≡ names_beside d self.now strand chord }
     {
-        let from = self.frame.begins[strand.number() as usize].as_slice()[chord as usize];
+        let from = self.frame.begins.row(strand.number() as usize)[chord as usize];
         [self.name(from), self.name(from + 1)]
     }
 
@@ -231,8 +352,8 @@ impl Regions {
         ensures told { result ≡ tells_nice self.now }
         ensures value { (d : Shown) → IsTableOf d self.now → result ≡ is_nice d }
     {
-        for region in &self.regions {
-            let region = *region;
+        for name in 0..self.told.len() {
+            let region = self.told.region(name);
             if !region.base && region.size > 2 {
                 return false;
             }
@@ -248,8 +369,8 @@ impl Regions {
         ensures value { (d : Shown) → IsTableOf d self.now → HasDistances d self.now → result ≡ weight d }
     {
         let mut weight: u64 = 0;
-        for region in &self.regions {
-            let region = *region;
+        for name in 0..self.told.len() {
+            let region = self.told.region(name);
             if !region.base {
                 weight += region.size.saturating_sub(2) as u64 * region.distance as u64;
             }

@@ -7,6 +7,7 @@ use Rattle.region_table.proofs.chords.read_chords.Given as goal
 -- the chords of the strands so far
 abbrev pub invariant-loop-strand : goal.invariant-loop-strand
 invariant-loop-strand l = record {
-  chords : l.all.items ≡ flat_map (strand_chords l.drawing) (below l.strand);
-  begins : l.begins.items ≡ map (λ i. map (λ c. c.from) (strand_chords l.drawing i)) (below l.strand);
+  chords : l.all.items ≡ flat_map (strand_chords l.drawing.drawing) (below l.strand);
+  room : l.begins.room ≡ 0;
+  begins : l.begins.lists ≡ map (λ i. map (λ c. c.from) (strand_chords l.drawing.drawing i)) (below l.strand);
 }

@@ -4,12 +4,12 @@ use Rattle.page_surface.specs.Polygon.{first_side, second_side}
 use Rattle.drawing.proofs.StrandTables.{entry_there, exit_there}
 use Rattle.drawing.proofs.SweepTables.{strand_more, strand_start}
 use Rattle.region_table.proofs.ChordTables.{chord_read, place_known, strand_done, strand_end}
-use Rattle.region_table.proofs.wished.Ends.{placed}
+use Rattle.drawing.proofs.Ends.{placed}
 use Rattle.region_table.proofs.chords.strand_chords.Goals as goal
 
 pub loop-exit-init : goal.loop-exit-init
 loop-exit-init c =
-    let d = c.args.drawing.now in
+    let d = c.args.drawing.now.drawing in
     let f : c.first_side-first_side.result ≡ first_side d.polygon c.args.strand = cc in
     let s : c.pair.result ≡ second_side d.polygon c.args.strand = cc in
     let h = strand_start d c.args.strand _ _ _ _ (placed d c.requires.embedded) c.requires.strand f s c.end_of-from.ensures (c.as_slice-exit-items.ensures.value ∙ c.in_ok-exits.ensures) in
@@ -18,38 +18,38 @@ loop-exit-init c =
 pub chord_between-requires-clause-from_side : goal.chord_between-requires-clause-from_side
 chord_between-requires-clause-from_side c =
     let v = c.loop-exit.invariant in
-    (place_known c.args.drawing.now c.args.starts.now c.requires.starts _ _ c.requires.few v.from_side v.from_place).0
+    (place_known c.args.drawing.now.drawing c.args.starts.now c.requires.starts _ _ c.requires.few v.from_side v.from_place).0
 
 pub chord_between-requires-clause-from_few : goal.chord_between-requires-clause-from_few
 chord_between-requires-clause-from_few c =
     let v = c.loop-exit.invariant in
-    (place_known c.args.drawing.now c.args.starts.now c.requires.starts _ _ c.requires.few v.from_side v.from_place).1
+    (place_known c.args.drawing.now.drawing c.args.starts.now c.requires.starts _ _ c.requires.few v.from_side v.from_place).1
 
 pub chord_between-requires-clause-to_side : goal.chord_between-requires-clause-to_side
 chord_between-requires-clause-to_side c =
-    let d = c.args.drawing.now in
+    let d = c.args.drawing.now.drawing in
     let k = exit_there d (placed d c.requires.embedded) c.args.strand _ _ _ (c.as_slice-exit-items.ensures.value ∙ c.in_ok-exits.ensures) c.loop-exit-test.true c.exit-item.is in
     (place_known d c.args.starts.now c.requires.starts c.exit-item.result.side c.exit-item.result.place c.requires.few k.0 (omega (arith, k))).0
 
 pub chord_between-requires-clause-to_few : goal.chord_between-requires-clause-to_few
 chord_between-requires-clause-to_few c =
-    let d = c.args.drawing.now in
+    let d = c.args.drawing.now.drawing in
     let k = exit_there d (placed d c.requires.embedded) c.args.strand _ _ _ (c.as_slice-exit-items.ensures.value ∙ c.in_ok-exits.ensures) c.loop-exit-test.true c.exit-item.is in
     (place_known d c.args.starts.now c.requires.starts c.exit-item.result.side c.exit-item.result.place c.requires.few k.0 (omega (arith, k))).1
 
 pub entry-from-requires-clause-side : goal.entry-from-requires-clause-side
 entry-from-requires-clause-side c =
-    let d = c.args.drawing.now in
+    let d = c.args.drawing.now.drawing in
     (exit_there d (placed d c.requires.embedded) c.args.strand _ _ _ (c.as_slice-exit-items.ensures.value ∙ c.in_ok-exits.ensures) c.loop-exit-test.true c.exit-item.is).0
 
 pub entry-from-requires-clause-place : goal.entry-from-requires-clause-place
 entry-from-requires-clause-place c =
-    let d = c.args.drawing.now in
+    let d = c.args.drawing.now.drawing in
     (exit_there d (placed d c.requires.embedded) c.args.strand _ _ _ (c.as_slice-exit-items.ensures.value ∙ c.in_ok-exits.ensures) c.loop-exit-test.true c.exit-item.is).1
 
 pub loop-exit-preserved : goal.loop-exit-preserved
 loop-exit-preserved c =
-    let d = c.args.drawing.now in
+    let d = c.args.drawing.now.drawing in
     let v = c.loop-exit.invariant in
     let k = exit_there d (placed d c.requires.embedded) c.args.strand _ _ _ (c.as_slice-exit-items.ensures.value ∙ c.in_ok-exits.ensures) c.loop-exit-test.true c.exit-item.is in
     let r = entry_there d (placed d c.requires.embedded) _ _ k c.entry-from.ensures in
@@ -63,30 +63,30 @@ loop-exit-preserved c =
 pub chord_between-requires-2-clause-from_side : goal.chord_between-requires-2-clause-from_side
 chord_between-requires-2-clause-from_side c =
     let v = c.loop-exit.invariant in
-    (place_known c.args.drawing.now c.args.starts.now c.requires.starts _ _ c.requires.few v.from_side v.from_place).0
+    (place_known c.args.drawing.now.drawing c.args.starts.now c.requires.starts _ _ c.requires.few v.from_side v.from_place).0
 
 pub chord_between-requires-2-clause-from_few : goal.chord_between-requires-2-clause-from_few
 chord_between-requires-2-clause-from_few c =
     let v = c.loop-exit.invariant in
-    (place_known c.args.drawing.now c.args.starts.now c.requires.starts _ _ c.requires.few v.from_side v.from_place).1
+    (place_known c.args.drawing.now.drawing c.args.starts.now c.requires.starts _ _ c.requires.few v.from_side v.from_place).1
 
 pub chord_between-requires-2-clause-to_side : goal.chord_between-requires-2-clause-to_side
 chord_between-requires-2-clause-to_side c =
-    let d = c.args.drawing.now in
+    let d = c.args.drawing.now.drawing in
     let f : c.first_side-first_side.result ≡ first_side d.polygon c.args.strand = cc in
     let k = strand_end d c.requires.embedded c.args.strand _ _ c.requires.strand f c.end_of.ensures in
     (place_known d c.args.starts.now c.requires.starts _ _ c.requires.few k.0 k.1).0
 
 pub chord_between-requires-2-clause-to_few : goal.chord_between-requires-2-clause-to_few
 chord_between-requires-2-clause-to_few c =
-    let d = c.args.drawing.now in
+    let d = c.args.drawing.now.drawing in
     let f : c.first_side-first_side.result ≡ first_side d.polygon c.args.strand = cc in
     let k = strand_end d c.requires.embedded c.args.strand _ _ c.requires.strand f c.end_of.ensures in
     (place_known d c.args.starts.now c.requires.starts _ _ c.requires.few k.0 k.1).1
 
 pub returns : goal.returns
 returns c =
-    let d = c.args.drawing.now in
+    let d = c.args.drawing.now.drawing in
     let v = c.loop-exit.invariant in
     let f : c.first_side-first_side.result ≡ first_side d.polygon c.args.strand = cc in
     let k = strand_end d c.requires.embedded c.args.strand _ _ c.requires.strand f c.end_of.ensures in

@@ -6,7 +6,7 @@ use Rattle.region_table.proofs.chords.strand_chords.Given as goal
 -- the chords so far, with those from here on, are all
 abbrev pub invariant-loop-exit : goal.invariant-loop-exit
 invariant-loop-exit l = record {
-  from_side : l.from.side < sides l.drawing.polygon;
-  from_place : l.from.place ≤ points_on l.drawing l.from.side;
-  so_far : l.chords.items ++ cut_strand l.drawing l.from (drop l.exit-index l.exit-items) (end_of l.drawing l.first_side) ≡ strand_chords l.drawing l.fn.strand;
+  from_side : l.from.side < sides l.drawing.drawing.polygon;
+  from_place : l.from.place ≤ points_on l.drawing.drawing l.from.side;
+  so_far : l.chords.items ++ cut_strand l.drawing.drawing l.from (drop l.exit-index l.exit-items) (end_of l.drawing.drawing l.first_side) ≡ strand_chords l.drawing.drawing l.fn.strand;
 }

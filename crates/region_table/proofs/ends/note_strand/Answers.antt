@@ -1,17 +1,16 @@
 use Rattle.std.proofs.Common.{◌≡◌, ℕ, ◌<◌, List, [], length, get_or, set, ◌∙◌, refl, ap, subst, sym, arith, inl, inr}
 use Rattle.std.proofs.lemmas.Bool.{cases_eq}
-use Rattle.std.proofs.lemmas.List.{get_or_default}
 use Rattle.region_table.specs.Ends.{ChordNo, IsNoted}
 use Rattle.region_table.proofs.EndTables.{as_long, chord_noted, noted_kept, right_kept}
 use Rattle.region_table.proofs.ends.note_strand.Goals as goal
 
 pub loop-chord-preserved : goal.loop-chord-preserved
 loop-chord-preserved c =
-    let begins = c.args.begins.now in
+    let begins = c.args.begins.now.lists in
     let mates = c.args.mates.now in
     let v = c.loop-chord.invariant in
-    let row : c.as_slice-froms.result.now ≡ get_or begins c.args.strand [] = c.as_slice-froms.ensures ∙ (c.index-begins-strand.is ∙ get_or_default begins c.args.strand _ [] c.requires.strand) in
-    let from = get_or c.as_slice-froms.result.now c.loop-chord.chord 0 in
+    let row : c.row-froms.result.now ≡ get_or begins c.args.strand [] = c.row-froms.ensures in
+    let from = get_or c.row-froms.result.now c.loop-chord.chord 0 in
     let name : ChordNo = record { strand = c.new.result; chord = c.loop-chord.chord } in
     let lc : c.loop-chord.chord < length (get_or begins c.args.strand []) = omega (arith, c.loop-chord-test.true, ap length row) in
     let is : from ≡ get_or (get_or begins c.args.strand []) c.loop-chord.chord 0 = ap (λ (xs : List ℕ). get_or xs c.loop-chord.chord 0) row in

@@ -6,6 +6,6 @@ use Rattle.region_table.proofs.ends.note_strand.Given as goal
 abbrev pub invariant-loop-chord : goal.invariant-loop-chord
 invariant-loop-chord l = record {
   size : length l.ends ≡ length l.fn.ends;
-  kept : (x : ℕ) → IsEnd l.begins l.mates x (end_at l.fn.ends x) → IsEnd l.begins l.mates x (end_at l.ends x);
-  noted : (c : ℕ) → c < l.chord → IsNoted l.begins l.mates l.ends l.fn.strand c;
+  kept : (x : ℕ) → IsEnd l.begins.lists l.mates x (end_at l.fn.ends x) → IsEnd l.begins.lists l.mates x (end_at l.ends x);
+  noted : (c : ℕ) → c < l.chord → IsNoted l.begins.lists l.mates l.ends l.fn.strand c;
 }

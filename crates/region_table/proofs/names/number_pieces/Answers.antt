@@ -3,31 +3,31 @@ use Rattle.page_surface.specs.Drawing.{Drawing, IsEmbedded, chords}
 use Rattle.drawing.specs.Pieces.{spans}
 use Rattle.drawing.specs.Round.{other_end}
 use Rattle.region_table.specs.Naming.{number_of}
-use Rattle.region_table.proofs.wished.PieceCount.{some_span}
+use Rattle.drawing.proofs.PieceCount.{some_span}
 use Rattle.region_table.proofs.NumberSteps.{named_size, count_begins, count_new, count_old, number_new, number_old, numbers_begin, numbers_done, table_size}
 use Rattle.region_table.proofs.names.number_pieces.Goals as goal
 use Rattle.region_table.proofs.names.number_pieces.Goals.{then-mate-at+in_ok-push-2, else-mate-at+in_ok-push-3}
 
 pub loop-at-init : goal.loop-at-init
 loop-at-init c = record {
-  named = numbers_begin c.args.drawing.now c.requires.embedded c.args.mates.now c.requires.mates _ (c.in_ok-push.ensures.items ∙ ap (λ xs. xs ++ 0 ∷ []) c.new-names.ensures.items);
-  counted = sym (count_begins c.args.drawing.now c.requires.embedded c.args.mates.now c.requires.mates);
+  named = numbers_begin c.args.drawing.now.drawing c.requires.embedded c.args.mates.now c.requires.mates _ (c.in_ok-push.ensures.items ∙ ap (λ xs. xs ++ 0 ∷ []) c.new-names.ensures.items);
+  counted = sym (count_begins c.args.drawing.now.drawing c.requires.embedded c.args.mates.now c.requires.mates);
   few = omega arith;
 }
 
 pub overflow_cast-at : goal.overflow_cast-at
 overflow_cast-at c =
-    let n = table_size c.args.drawing.now c.requires.embedded c.args.mates.now c.requires.mates in
+    let n = table_size c.args.drawing.now.drawing c.requires.embedded c.args.mates.now c.requires.mates in
     omega (arith, n, c.requires.few, c.loop-at-test.true, c.loop-at.auto)
 
 pub overflow_add-count : goal.overflow_add-count
 overflow_add-count c =
-    let n = table_size c.args.drawing.now c.requires.embedded c.args.mates.now c.requires.mates in
+    let n = table_size c.args.drawing.now.drawing c.requires.embedded c.args.mates.now c.requires.mates in
     omega (arith, n, c.requires.few, c.loop-at-test.true, c.loop-at.auto, c.loop-at.invariant.few)
 
 pub index-name-requires : goal.index-name-requires
 index-name-requires c =
-    let n = named_size (number_of c.args.drawing.now) c.loop-at.at c.loop-at.names.items c.loop-at.invariant.named in
+    let n = named_size (number_of c.args.drawing.now.drawing) c.loop-at.at c.loop-at.names.items c.loop-at.invariant.named in
     omega (arith, n, c.if-mate-at.false, c.loop-at.names.ok)
 
 pub loop-at-preserved : goal.loop-at-preserved
@@ -51,7 +51,7 @@ loop-at-preserved c = elim c.if-mate-at.branch [
 ]
   where
     d : Drawing
-    d = c.args.drawing.now
+    d = c.args.drawing.now.drawing
 
     ok : IsEmbedded d
     ok = c.requires.embedded
@@ -64,5 +64,5 @@ loop-at-preserved c = elim c.if-mate-at.branch [
 
 pub returns : goal.returns
 returns c =
-    let n = table_size c.args.drawing.now c.requires.embedded c.args.mates.now c.requires.mates in
-    numbers_done c.args.drawing.now c.requires.embedded c.args.mates.now c.requires.mates c.loop-at.at c.loop-at.names.items (omega (arith, n, c.loop-at.auto, c.loop-at-test.false, some_span c.args.drawing.now c.requires.embedded)) c.loop-at.invariant.named
+    let n = table_size c.args.drawing.now.drawing c.requires.embedded c.args.mates.now c.requires.mates in
+    numbers_done c.args.drawing.now.drawing c.requires.embedded c.args.mates.now c.requires.mates c.loop-at.at c.loop-at.names.items (omega (arith, n, c.loop-at.auto, c.loop-at-test.false, some_span c.args.drawing.now.drawing c.requires.embedded)) c.loop-at.invariant.named

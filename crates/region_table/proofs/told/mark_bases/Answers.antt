@@ -7,24 +7,24 @@ use Rattle.region_table.proofs.told.mark_bases.Goals as goal
 
 pub bounds-starts-side : goal.bounds-starts-side
 bounds-starts-side c =
-    let n : c.sides-side-end.result ≡ sides c.args.drawing.now.polygon = c.sides-side-end.ensures.value ∙ ap sides c.polygon.ensures in
-    next_side_known c.args.drawing.now c.args.starts.now c.requires.starts c.loop-side.side (omega (arith, n, c.loop-side-test.true))
+    let n : c.sides-side-end.result ≡ sides c.args.drawing.now.drawing.polygon = c.sides-side-end.ensures.value ∙ ap sides c.polygon.ensures in
+    next_side_known c.args.drawing.now.drawing c.args.starts.now c.requires.starts c.loop-side.side (omega (arith, n, c.loop-side-test.true))
 
 pub overflow_sub-gap : goal.overflow_sub-gap
 overflow_sub-gap c =
-    let n : c.sides-side-end.result ≡ sides c.args.drawing.now.polygon = c.sides-side-end.ensures.value ∙ ap sides c.polygon.ensures in
-    omega (arith, gap_read c.args.drawing.now c.args.starts.now c.requires.starts c.loop-side.side (omega (arith, n, c.loop-side-test.true)))
+    let n : c.sides-side-end.result ≡ sides c.args.drawing.now.drawing.polygon = c.sides-side-end.ensures.value ∙ ap sides c.polygon.ensures in
+    omega (arith, gap_read c.args.drawing.now.drawing c.args.starts.now c.requires.starts c.loop-side.side (omega (arith, n, c.loop-side-test.true)))
 
 pub bounds-names-gap : goal.bounds-names-gap
 bounds-names-gap c =
-    let d = c.args.drawing.now in
+    let d = c.args.drawing.now.drawing in
     let n : c.sides-side-end.result ≡ sides d.polygon = c.sides-side-end.ensures.value ∙ ap sides c.polygon.ensures in
     let l : c.loop-side.side < sides d.polygon = omega (arith, n, c.loop-side-test.true) in
     omega (arith, gap_read d c.args.starts.now c.requires.starts c.loop-side.side l, gap_inside d c.args.starts.now c.requires.starts c.loop-side.side l, c.requires.named)
 
 pub bounds-bases-names : goal.bounds-bases-names
 bounds-bases-names c =
-    let d = c.args.drawing.now in
+    let d = c.args.drawing.now.drawing in
     let n : c.sides-side-end.result ≡ sides d.polygon = c.sides-side-end.ensures.value ∙ ap sides c.polygon.ensures in
     let l : c.loop-side.side < sides d.polygon = omega (arith, n, c.loop-side-test.true) in
     let g = gap_read d c.args.starts.now c.requires.starts c.loop-side.side l in
@@ -33,7 +33,7 @@ bounds-bases-names c =
 
 pub loop-side-preserved : goal.loop-side-preserved
 loop-side-preserved c =
-    let d = c.args.drawing.now in
+    let d = c.args.drawing.now.drawing in
     let v = c.loop-side.invariant in
     let n : c.sides-side-end.result ≡ sides d.polygon = c.sides-side-end.ensures.value ∙ ap sides c.polygon.ensures in
     let l : c.loop-side.side < sides d.polygon = omega (arith, n, c.loop-side-test.true) in

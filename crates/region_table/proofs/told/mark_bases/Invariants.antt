@@ -8,5 +8,5 @@ use Rattle.region_table.proofs.told.mark_bases.Given as goal
 abbrev pub invariant-loop-side : goal.invariant-loop-side
 invariant-loop-side l = record {
   size : length l.bases ≡ length l.fn.bases;
-  marked : (p : ℕ) → p < length l.bases → get_or l.bases p false ≡ list_any (λ g. eqb (get_or l.names g 0) p) (map (gap l.drawing) (below l.side));
+  marked : (p : ℕ) → p < length l.bases → get_or l.bases p false ≡ list_any (λ g. eqb (get_or l.names g 0) p) (map (gap l.drawing.drawing) (below l.side));
 }

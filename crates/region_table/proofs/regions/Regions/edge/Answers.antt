@@ -12,13 +12,13 @@ use Rattle.region_table.proofs.regions.Regions.edge.Goals as goal
 pub index-end-requires : goal.index-end-requires
 index-end-requires c =
     let t = c.args.self.now in
-    let kept = subst (λ u. IsKept u c.self.inside.frame.ends.items) c.self.view_is c.self.invariant.kept in
+    let kept = subst (λ u. IsKept u c.self.inside.frame.ends.items) c.self.view_is c.self.invariant.0.kept in
     omega (arith, c.segment_in-segment.ensures.inside, numbers_kept t c.self.inside.frame.ends.items kept, kept.as_many, c.self.inside.frame.ends.ok)
 
 pub returns-then-at-eq0 : goal.returns-then-at-eq0
 returns-then-at-eq0 c = λ d s ok told l e.
     let t = c.args.self.now in
-    let kept = subst (λ u. IsKept u c.self.inside.frame.ends.items) c.self.view_is c.self.invariant.kept in
+    let kept = subst (λ u. IsKept u c.self.inside.frame.ends.items) c.self.view_is c.self.invariant.0.kept in
     let la : c.args.at < corners d s = omega (arith, c.requires.at, size_there t c.args.piece c.requires.inner d s told l e) in
     let is = c.segment_in-segment.ensures.value d s ok told l e in
     let start = start_seen t c.self.inside.frame.ends.items kept c.self.inside.frame.starts.items (ap (λ (u : Table). u.starts) c.self.view_is) c.side_at-side.result c.number.result c.index.result.now
@@ -31,7 +31,7 @@ pub returns-else-at-eq0 : goal.returns-else-at-eq0
 returns-else-at-eq0 c = λ d s ok told l e.
     let t = c.args.self.now in
     let ends = c.self.inside.frame.ends.items in
-    let kept = subst (λ u. IsKept u ends) c.self.view_is c.self.invariant.kept in
+    let kept = subst (λ u. IsKept u ends) c.self.view_is c.self.invariant.0.kept in
     let la : c.args.at < corners d s = omega (arith, c.requires.at, size_there t c.args.piece c.requires.inner d s told l e) in
     let is = c.segment_in-segment.ensures.value d s ok told l e in
     let odd : c.args.at % 2 ≡ 1 = omega (arith, c.if-at-eq0.false) in

@@ -4,5 +4,5 @@ use Rattle.region_table.specs.Table.{is_good}
 use Rattle.region_table.proofs.regions.Regions.is_nice.Given as goal
 
 -- the pieces so far are good
-abbrev pub invariant-loop-region : goal.invariant-loop-region
-invariant-loop-region l = list_all is_good (take l.region-index l.region-items) ≡ true
+abbrev pub invariant-loop-name : goal.invariant-loop-name
+invariant-loop-name l = list_all is_good (take l.name l.self.regions) ≡ true

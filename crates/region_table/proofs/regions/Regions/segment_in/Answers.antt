@@ -11,7 +11,7 @@ overflow_add-index c =
     let ends = c.self.inside.frame.ends.items in
     let starts = c.self.inside.listing.starts.items in
     let spans = c.self.inside.listing.spans.items in
-    let all = subst (λ u. IsKeptListed u ends starts spans) c.self.view_is c.self.invariant in
+    let all = subst (λ u. IsKeptListed u ends starts spans) c.self.view_is c.self.invariant.0 in
     let p = c.args.piece in
     let begin = ap (λ n. get_or starts n 0) c.number.ensures.value in
     let read : c.index.result.now ≡ get_or starts p 0
@@ -25,7 +25,7 @@ index-requires-2 c =
     let ends = c.self.inside.frame.ends.items in
     let starts = c.self.inside.listing.starts.items in
     let spans = c.self.inside.listing.spans.items in
-    let all = subst (λ u. IsKeptListed u ends starts spans) c.self.view_is c.self.invariant in
+    let all = subst (λ u. IsKeptListed u ends starts spans) c.self.view_is c.self.invariant.0 in
     let p = c.args.piece in
     let begin = ap (λ n. get_or starts n 0) c.number.ensures.value in
     let read : c.index.result.now ≡ get_or starts p 0
@@ -39,7 +39,7 @@ returns-clause-inside c =
     let ends = c.self.inside.frame.ends.items in
     let starts = c.self.inside.listing.starts.items in
     let spans = c.self.inside.listing.spans.items in
-    let all = subst (λ u. IsKeptListed u ends starts spans) c.self.view_is c.self.invariant in
+    let all = subst (λ u. IsKeptListed u ends starts spans) c.self.view_is c.self.invariant.0 in
     let p = c.args.piece in
     let begin = ap (λ n. get_or starts n 0) c.number.ensures.value in
     let read : c.index.result.now ≡ get_or starts p 0
@@ -54,7 +54,7 @@ returns-clause-value c =
     let ends = c.self.inside.frame.ends.items in
     let starts = c.self.inside.listing.starts.items in
     let spans = c.self.inside.listing.spans.items in
-    let all = subst (λ u. IsKeptListed u ends starts spans) c.self.view_is c.self.invariant in
+    let all = subst (λ u. IsKeptListed u ends starts spans) c.self.view_is c.self.invariant.0 in
     let p = c.args.piece in
     let begin = ap (λ n. get_or starts n 0) c.number.ensures.value in
     let read : c.index.result.now ≡ get_or starts p 0

@@ -16,7 +16,7 @@ spot-requires-2-clause-segment c =
     let first : c.first_side-first.result ≡ first_side t.polygon a = c.first_side-first.ensures ∙ ap (λ (q : Polygon). first_side q a) polygon in
     let second : c.pair-second.result ≡ second_side t.polygon a = c.pair-second.ensures ∙ (ap (λ (q : Polygon). partner q c.first_side-first.result) polygon ∙ ap (partner t.polygon) first) in
     let points : c.points_on-points.result ≡ told_crossings t a = c.points_on-points.ensures ∙ ap (told_points t) first in
-    let kept = subst (λ (u : Table). IsKept u c.self.inside.frame.ends.items) c.self.view_is c.self.invariant.kept in
+    let kept = subst (λ (u : Table). IsKept u c.self.inside.frame.ends.items) c.self.view_is c.self.invariant.0.kept in
     let there = ap (told_points t) second ∙ points_beyond t c.self.inside.frame.ends.items kept a c.requires.arc in
     elim c.if-point-points.branch [
       | then-point-points w ↦ omega (arith, w.beyond-is, there, points)
@@ -31,7 +31,7 @@ returns c = λ d told.
     let first : c.first_side-first.result ≡ first_side t.polygon a = c.first_side-first.ensures ∙ ap (λ (q : Polygon). first_side q a) polygon in
     let second : c.pair-second.result ≡ second_side t.polygon a = c.pair-second.ensures ∙ (ap (λ (q : Polygon). partner q c.first_side-first.result) polygon ∙ ap (partner t.polygon) first) in
     let points : c.points_on-points.result ≡ told_crossings t a = c.points_on-points.ensures ∙ ap (told_points t) first in
-    let kept = subst (λ (u : Table). IsKept u c.self.inside.frame.ends.items) c.self.view_is c.self.invariant.kept in
+    let kept = subst (λ (u : Table). IsKept u c.self.inside.frame.ends.items) c.self.view_is c.self.invariant.0.kept in
     let beyond : ((c.args.point.number < told_crossings t a) × (c.if-point-points.beyond ≡ told_crossings t a - 1 - c.args.point.number)) ⊎ ((told_crossings t a ≤ c.args.point.number) × (c.if-point-points.beyond ≡ told_crossings t a))
     = elim c.if-point-points.branch [
       | then-point-points w ↦ inl (omega (arith, w.if-point-points.true, points), omega (arith, w.beyond-is, points))

@@ -4,5 +4,5 @@ use Rattle.region_table.specs.Table.{share}
 use Rattle.region_table.proofs.regions.Regions.weight.Given as goal
 
 -- the weight of the pieces so far
-abbrev pub invariant-loop-region : goal.invariant-loop-region
-invariant-loop-region l = l.weight ≡ sum_by share (take l.region-index l.region-items)
+abbrev pub invariant-loop-name : goal.invariant-loop-name
+invariant-loop-name l = l.weight ≡ sum_by share (take l.name l.self.regions)

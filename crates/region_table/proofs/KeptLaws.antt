@@ -1,0 +1,23 @@
+-- The table kept through some fingers is the one made from scratch, up to names.
+use Rattle.std.proofs.Common.{◌≡◌, ℕ, List, [], ◌∷◌, sym, subst}
+use Rattle.page_surface.specs.Drawing.{Drawing}
+use Rattle.drawing.specs.declared.finger.Finger.{Finger}
+use Rattle.drawing.specs.Fingers.{pushed, replayed}
+use Rattle.region_table.specs.Table.{IsRenamed, IsTableOf, Table}
+use Rattle.region_table.proofs.TableNames.{one_table_up_to_names, renamed}
+
+-- a table is kept through some fingers, one after another: of each the table of the drawing before becomes that of the drawing after
+abbrev pub IsKeptThrough : Drawing → List Finger → Table → Table → Type 0
+IsKeptThrough d [] t u = u ≡ t
+IsKeptThrough d (f ∷ fs) t u = (v : Table) × (IsTableOf d t → IsTableOf (pushed d f) v) × IsKeptThrough (pushed d f) fs v u
+
+-- then it is that of the drawing after all fingers,
+pub kept_through : (d : Drawing) (fs : List Finger) (t u : Table) → IsTableOf d t → IsKeptThrough d fs t u → IsTableOf (replayed d fs) u
+kept_through d [] t u told same = subst (λ v. IsTableOf d v) (sym same) told
+kept_through d (f ∷ fs) t u told kept = kept_through (pushed d f) fs kept.0 u (kept.1 told) kept.2
+
+-- and so the one made from scratch, but for names
+pub one_table_through : (d : Drawing) (fs : List Finger) (t u v : Table) → IsTableOf d t → IsKeptThrough d fs t u → IsTableOf (replayed d fs) v → (to : ℕ → ℕ) × IsRenamed u v to
+one_table_through d fs t u v told kept made =
+    let there = kept_through d fs t u told kept in
+    (renamed (replayed d fs) u v there made, one_table_up_to_names (replayed d fs) u v there made)

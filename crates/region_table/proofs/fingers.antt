@@ -1,0 +1,26 @@
+-- What a finger does to the pieces of a drawing and to their names.
+pub mod AfterFinger
+pub mod Changed
+pub mod Entries
+pub mod FrameAfter
+pub mod Homes
+pub mod IsPushed
+pub mod Kept
+pub mod Lists
+pub mod Loop
+pub mod Mates
+pub mod Names
+pub mod NamesAfter
+pub mod Next
+pub mod Parts
+pub mod PushEnds
+pub mod PushReads
+pub mod PushTold
+pub mod Pushed
+pub mod Sides
+pub mod Small
+pub mod StoredAfter
+pub mod TableAfter
+pub mod TreeLoops
+pub mod Turn
+pub mod Walk
