@@ -1,0 +1,46 @@
+mod AnyBurst
+mod Applied
+mod BurstLegal
+mod BurstLength
+mod BurstLowers
+mod BurstNumbers
+mod ChordNames
+pub mod ChosenPiece
+mod ChosenSteps
+mod closed
+mod Distance
+mod DoorChain
+mod DoorSearch
+mod DoorsLeft
+mod DoorSteps
+mod EdgeSteps
+pub mod Examples
+mod falling
+mod Farther
+pub mod Fitting
+mod GoesBefore
+pub mod Laws
+mod Ledger
+mod MeasuredReads
+mod NameOfChord
+mod Nearer
+mod NextBurst
+mod NoNearer
+mod PathDoors
+pub mod PathEnds
+mod PathSegments
+mod PathSteps
+mod PathStops
+mod PieceRounds
+mod PlanSteps
+mod PushDoor
+mod Pushing
+mod RaisedRows
+mod RowEnd
+mod RowLast
+mod RowLegal
+mod Rows
+mod Stepping
+pub mod StrategyEnds
+mod Tracing
+mod Weight
