@@ -1,0 +1,11 @@
+pub mod Ground
+pub mod Kept
+pub mod Leads
+pub mod Led
+pub mod Marks
+pub mod NearTest
+pub mod Strip
+pub mod Sweep
+pub mod Targets
+pub mod Walk
+pub mod Walks

@@ -1,0 +1,131 @@
+// The generator to which a fresh step leads by a domain, for the test of a step that is to come.
+ghost use Rattle.std.specs.Prelude.{◌≡◌, ◌+◌, ◌<◌, ◌^◌, true, length, slice_index, suc, IfOk};
+ghost use Rattle.obd_base.specs.Lists.{Mem};
+ghost use Rattle.page_surface.specs.Drawing.{IsEmbedded};
+ghost use Rattle.page_surface.specs.Polygon.{arc_count};
+ghost use Rattle.drawing.specs.Layout.{offsets_of};
+ghost use Rattle.drawing.specs.Pieces.{piece_table, span_count};
+ghost use Rattle.drawing.specs.Points.{IsGenerator, generators as all_generators};
+ghost use Rattle.drawing.specs.Round.{point_of};
+ghost use Rattle.empty_domains.specs.Ground.{IsGround, IsSpot, IsStanding};
+ghost use Rattle.empty_domains.specs.Led.{IsLed};
+ghost use Rattle.empty_domains.specs.Marks.{AreMarked};
+ghost use Rattle.empty_domains.specs.NearTest.{swept};
+ghost use Rattle.empty_domains.specs.Strip.{all_strips, is_fresh};
+ghost use Rattle.empty_domains.specs.Sweep.{starts as rows_of};
+ghost use Rattle.empty_domains.specs.Walk.{target};
+ghost use Rattle.region_table.specs.Nice.{IsNice};
+
+use crate::collect::bigons;
+use crate::drawing_tables::points_on;
+use crate::generator_sides::standing;
+use crate::rules::keeps_near;
+use crate::strip::Step;
+use crate::tables::Tables;
+use generator_list::Generators;
+use hkm_diagram::Diagram;
+use obd_base::{GenNo, NoMemory, SideNo};
+use page_surface::Polygon;
+use std::alloc::Global;
+
+// The number of a point on its arc.
+fn point_at(diagram: &Diagram, polygon: &Polygon, tables: &Tables, starts: &[u32], at: u32) -> u32
+    requires valid { IsEmbedded diagram.now }
+    requires polygon { polygon.now ≡ diagram.now.polygon }
+    requires tables { IsGround diagram.now tables.now }
+    requires starts { starts.now ≡ offsets_of diagram.now }
+    requires spot { IsSpot diagram.now at }
+    ensures { result ≡ point_of diagram.now at }
+{
+    let side = tables.side(at);
+    let place = at - starts[side as usize];
+    let points = points_on(diagram, starts, side);
+    let first = polygon.first_side(polygon.arc(SideNo::new(side)));
+    if first.number() == side {
+        return place;
+    }
+    if place < points {
+        points - 1 - place
+    } else {
+        place
+    }
+}
+
+// The points to which a step leads: the far ends of its edges on arcs stand for the generator's points there.
+fn led_points(
+    alloc: Global,
+    diagram: &Diagram,
+    polygon: &Polygon,
+    tables: &Tables,
+    starts: &[u32],
+    y: &[u32],
+    step: Step,
+) -> Result<Vec<u32>, NoMemory>
+    requires valid { IsEmbedded diagram.now }
+    requires polygon { polygon.now ≡ diagram.now.polygon }
+    requires tables { IsGround diagram.now tables.now }
+    requires starts { starts.now ≡ offsets_of diagram.now }
+    requires y { length y.now ≡ arc_count diagram.now.polygon }
+    requires first { step.by.first < arc_count diagram.now.polygon }
+    requires second { step.by.second < arc_count diagram.now.polygon }
+    requires start { IsSpot diagram.now (step.by.start + step.by.width) }
+    requires stop { IsSpot diagram.now (step.by.stop + step.by.width) }
+    requires few { span_count diagram.now < 2 ^ 30 }
+    ensures { IfOk result (λ x. x.items ≡ target diagram.now y.now step.by) }
+{
+    let mut x = Vec::from_slice(alloc, y)?;
+    x[step.arc as usize] = point_at(diagram, polygon, tables, starts, step.start + step.width);
+    x[step.second as usize] = point_at(diagram, polygon, tables, starts, step.stop + step.width);
+    Ok(x)
+}
+
+// The generator to which a fresh step leads by the pieces along its rows, which are marked.
+pub(crate) fn led_to(
+    alloc: Global,
+    diagram: &Diagram,
+    polygon: &Polygon,
+    tables: &Tables,
+    starts: &[u32],
+    pieces: &[u32],
+    generators: &Generators,
+    y: &[u32],
+    from: &[u32],
+    step: Step,
+    rows: &[u32],
+    marks: &[bool],
+    found: &[u32],
+) -> Result<Option<GenNo>, NoMemory>
+    requires valid { IsEmbedded diagram.now }
+    requires nice { IsNice diagram.now }
+    requires polygon { polygon.now ≡ diagram.now.polygon }
+    requires tables { IsGround diagram.now tables.now }
+    requires starts { starts.now ≡ offsets_of diagram.now }
+    requires pieces { pieces.now ≡ piece_table diagram.now }
+    requires generators { generators.now ≡ all_generators diagram.now }
+    requires y { IsGenerator diagram.now y.now }
+    requires from { IsStanding diagram.now y.now from.now }
+    requires read { Mem step (all_strips diagram.now y.now) }
+    requires fresh { is_fresh diagram.now step ≡ true }
+    requires rows { rows.now ≡ rows_of (λ x. slice_index tables.now.other x) (λ x. slice_index tables.now.opposite x) step.by.start (suc step.steps) }
+    requires found { AreMarked pieces.now (swept diagram.now step.by) found.now marks.now }
+    requires few { span_count diagram.now < 2 ^ 30 }
+    requires marks { length marks.now ≡ span_count diagram.now }
+    ensures { IfOk result (λ to. IsLed diagram.now y.now generators.now step to) }
+{
+    let x = led_points(alloc, diagram, polygon, tables, starts, y, step)?;
+    let Some(number) = generators.find(&x) else {
+        return Ok(None);
+    };
+    let wanted = if step.arc == step.second { 1 } else { 0 };
+    if bigons(&tables.other, found) != wanted {
+        return Ok(None);
+    }
+    let to = standing(alloc, diagram, polygon, starts, &x)?;
+    if keeps_near(
+        diagram, polygon, tables, pieces, marks, from, &to, rows, step.width,
+    ) {
+        Ok(Some(number))
+    } else {
+        Ok(None)
+    }
+}
