@@ -63,10 +63,10 @@ book_answers command bytes book result read answers =
     answers
 
 -- the answer with a certificate of the book, where nothing stands in its place,
-pub certified_answer : {E : Type 0} (book : Book) (d : Drawing) (c : Certificate) (result : Result Answer E) → IsCertificateOf book c → stopped book.limits.generators d ≡ None
-    → IfOk result (λ answer. answer ≡ record { status = status.Done; text = certificate_text c }) → IfOk result (AnswersDrawing book (stopped book.limits.generators d))
-certified_answer book d c result belongs none =
-    IfOk-weaker result (λ answer. answer ≡ record { status = status.Done; text = certificate_text c }) (AnswersDrawing book (stopped book.limits.generators d))
+pub certified_answer : {E : Type 0} (book : Book) (stops : Option Answer) (c : Certificate) (result : Result Answer E) → IsCertificateOf book c → stops ≡ None
+    → IfOk result (λ answer. answer ≡ record { status = status.Done; text = certificate_text c }) → IfOk result (AnswersDrawing book stops)
+certified_answer book stops c result belongs none =
+    IfOk-weaker result (λ answer. answer ≡ record { status = status.Done; text = certificate_text c }) (AnswersDrawing book stops)
     (λ answer is. subst (λ (o : Option Answer). AnswersDrawing book o answer) (sym none) (certifies answer is))
   where
     certifies : (answer : Answer) → answer ≡ record { status = status.Done; text = certificate_text c } → Certifies book answer
@@ -78,19 +78,19 @@ certified_answer book d c result belongs none =
     }
 
 -- and what stands there
-pub stopped_answer : {E : Type 0} (book : Book) (d : Drawing) (other : Answer) (result : Result Answer E) → stopped book.limits.generators d ≡ Some other
-    → IfOk result (λ answer. answer ≡ other) → IfOk result (AnswersDrawing book (stopped book.limits.generators d))
-stopped_answer book d other result stops =
-    IfOk-weaker result (λ answer. answer ≡ other) (AnswersDrawing book (stopped book.limits.generators d)) (λ answer is. subst (λ (o : Option Answer). AnswersDrawing book o answer) (sym stops) is)
+pub stopped_answer : {E : Type 0} (book : Book) (stops : Option Answer) (other : Answer) (result : Result Answer E) → stops ≡ Some other
+    → IfOk result (λ answer. answer ≡ other) → IfOk result (AnswersDrawing book stops)
+stopped_answer book stops other result is_other =
+    IfOk-weaker result (λ answer. answer ≡ other) (AnswersDrawing book stops) (λ answer is. subst (λ (o : Option Answer). AnswersDrawing book o answer) (sym is_other) is)
 
 -- the answer to the first drawing is that to the words
 pub words_answer : {E : Type 0} (book : Book) (s : Surface) (d : Drawing) (result : Result Answer E) → s ≡ joined_surface (open_book book) → IsFirstDrawing (open_book book) s d
-    → book_words book ≡ Ok (words d) → d ≡ tight_drawing s.polygon (words d) → IfOk result (AnswersDrawing book (stopped book.limits.generators d)) → IfOk result (AnswersWords book (book_words book))
+    → book_words book ≡ Ok (words d) → d ≡ tight_drawing s.polygon (words d) → IfOk result (AnswersDrawing book (stopped book.limits d)) → IfOk result (AnswersWords book (book_words book))
 words_answer book s d result joined first found tight =
-    IfOk-weaker result (AnswersDrawing book (stopped book.limits.generators d)) (AnswersWords book (book_words book))
+    IfOk-weaker result (AnswersDrawing book (stopped book.limits d)) (AnswersWords book (book_words book))
     (λ answer h. subst (λ (r : Result (List (List ℕ)) TooLong). AnswersWords book r answer) (sym found) (
       subst (IsFirstDrawing (open_book book) (joined_surface (open_book book))) same (subst (λ (t : Surface). IsFirstDrawing (open_book book) t d) joined first),
-      subst (λ (e : Drawing). AnswersDrawing book (stopped book.limits.generators e) answer) same h,
+      subst (λ (e : Drawing). AnswersDrawing book (stopped book.limits e) answer) same h,
     ))
   where
     same : d ≡ drawing_of book (words d)

@@ -1,5 +1,5 @@
 -- A certificate whose lines are made from the surface, the drawings and the complex of a book is the book's.
-use Rattle.std.proofs.Common.{◌≡◌, ℕ, ℤ, ◌+◌, ◌≤◌, List, [], refl, sym, ◌∙◌, ap, Some, arith}
+use Rattle.std.proofs.Common.{◌≡◌, ℕ, ℤ, ◌+◌, ◌≤◌, List, [], length, refl, sym, ◌∙◌, ap, Some, arith}
 use Rattle.std.specs.Prelude.{pos, ◌-ℤ◌, ◌*◌}
 use Rattle.curve_paths.specs.declared.named.NamedTwist.{NamedTwist}
 use Rattle.witness_check.proofs.Laws.{contact_last, last_column}
@@ -14,7 +14,7 @@ use Rattle.obd_cli.specs.declared.surface.Surface.{Surface}
 
 -- every line is that of the book
 pub all_belong : (book : Book) (s : Surface) (m : Moved) (x : Complex) (page : PageLines) (lines : LastLines) → IsSurfaceOf book s → book.slides ≡ [] → AreDrawings book s m
-    → book.limits.generators ≤ 20000 → IsComplexOf m.last book.limits.generators x
+    → book.limits.moves ≤ 20000 → book.limits.generators ≤ 20000 → length m.fingers ≤ book.limits.moves → IsComplexOf m.last book.limits.generators x
     → ArePageLines book s page → AreLastLines m.last lines
     → (slides : List ℕ) (twists : List NamedTwist) (contact : ℕ) (homology : ℤ) → slides ≡ [] → twists ≡ named_twists book → contact + 1 ≡ x.generators → homology ≡ pos x.generators -ℤ pos (2 * x.outcome.rank)
     → IsCertificateOf book (record {
@@ -36,7 +36,7 @@ pub all_belong : (book : Book) (s : Surface) (m : Moved) (x : Complex) (page : P
       homology = homology;
       verdict = x.outcome.verdict;
     })
-all_belong book s m x page lines surface no_slide drawings limit complex told shown_last slides twists contact homology sl tw last ho =
+all_belong book s m x page lines surface no_slide drawings most_moves most_generators moves complex told shown_last slides twists contact homology sl tw last ho =
     let at = last ∙ complex.count in
     record {
       belongs = record {
@@ -52,12 +52,12 @@ all_belong book s m x page lines surface no_slide drawings limit complex told sh
         first = drawings.first;
         first_is = drawings.first_is;
         strands = drawings.moved.strands;
-        few_fingers = drawings.moved.few;
+        few_fingers = omega (arith, moves, most_moves);
         last = m.last;
         last_is = drawings.moved.leads;
         finals = shown_last.finals;
         generators_are = complex.count;
-        few_generators = omega (arith, complex.within, limit);
+        few_generators = omega (arith, complex.within, most_generators);
         points = shown_last.points;
         contact = contact_last m.last contact at ∙ ap Some (sym shown_last.points);
         contact_last = last;
@@ -65,6 +65,7 @@ all_belong book s m x page lines surface no_slide drawings limit complex told sh
         concludes = complex.concludes;
         homology = ho;
       };
-      sparing = drawings.moved.sparing;
+      planned = drawings.moved.planned;
+      moves = moves;
       within = complex.within;
     }

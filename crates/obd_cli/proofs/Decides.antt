@@ -8,7 +8,7 @@ use Rattle.obd_doc.specs.Document.{book_read, refusal_of}
 use Rattle.obd_doc.specs.declared.book.Book.{Book}
 use Rattle.obd_doc.specs.declared.refusal.DocRefusal.{DocRefusal}
 use Rattle.obd_cli.proofs.Built.{no_slide_taken}
-use Rattle.obd_cli.proofs.OverLimit.{words_limited, words_not_over}
+use Rattle.obd_cli.proofs.OverLimit.{words_budget, words_limited, words_within}
 use Rattle.obd_cli.proofs.Stops.{words_answered, words_done, words_no_usage}
 use Rattle.obd_cli.specs.Run.{AnswersBuilt, AnswersDoc, Finished, HasBookStatus, HasReadStatus, HasStatus, IsFault, Owes, Told, has_text, most_bytes, not_built, page_answer}
 use Rattle.obd_cli.specs.Words.{book_words, words_text}
@@ -93,8 +93,10 @@ built_status command book (Some what) answer is answers = ap (λ (a : Answer). a
 built_status command.Decide book None answer is answers =
     let no_slide = no_slide_taken book is in (
       words_answered book (book_words book) answer answers,
-      words_not_over book (book_words book) answer no_slide answers,
+      λ done. (words_within book (book_words book) answer no_slide answers done).0,
+      λ done. (words_within book (book_words book) answer no_slide answers done).1,
       λ limits. (words_limited book (book_words book) answer no_slide answers limits).0,
+      λ limits. let (left, over, line) = words_budget book (book_words book) answer no_slide answers limits in (left, over),
     )
 built_status command.Page book None answer is answers = ap (λ (a : Answer). a.status) answers
 

@@ -7,6 +7,7 @@ use Rattle.page_surface.specs.Polygon.{Polygon}
 use Rattle.curve_paths.specs.Twists.{words_after}
 use Rattle.curve_paths.specs.declared.twist.TooLong.{TooLong}
 use Rattle.curve_paths.specs.declared.twist.Twist.{Twist}
+use Rattle.drawing.specs.Room.{Roomy}
 use Rattle.drawing.specs.Tight.{tight_drawing}
 use Rattle.monodromy.specs.Drawn.{IsDrawn}
 use Rattle.monodromy.specs.declared.refusal.MonodromyRefusal.{MonodromyRefusal}
@@ -40,6 +41,7 @@ module _ (book : Book) (valid : IsBook book) (s : Surface) (joined : s ≡ joine
   }
 
   -- as far as there is one
-  pub first_if : (r : Result Drawing MonodromyRefusal) → IfOk r (λ d. words_after p curves twists ≡ Ok (words d)) → IfOk r (λ d. IsDrawn p (words d) d) → IfOk r (IsFirstDrawing (open_book book) s)
-  first_if (Ok d) after drawn = first_drawn d after drawn
+  pub first_if : (r : Result Roomy MonodromyRefusal) → IfOk r (λ d. words_after p curves twists ≡ Ok (words d.drawing)) → IfOk r (λ d. IsDrawn p (words d.drawing) d.drawing)
+      → IfOk r (λ d. IsFirstDrawing (open_book book) s d.drawing)
+  first_if (Ok d) after drawn = first_drawn d.drawing after drawn
   first_if (Err why) after drawn = tt

@@ -1,59 +1,71 @@
--- A run that ends with GeneratorLimit has read a book whose last drawing has more generators than its limit.
-use Rattle.std.proofs.Common.{◌≡◌, ℕ, ◌+◌, List, Option, Some, None, Result, Ok, Err, inl, inr, refl, sym, ◌∙◌, ap, subst}
+-- A run that ends with the status of a limit has read a book that goes beyond it.
+use Rattle.std.proofs.Common.{◌≡◌, ℕ, List, [], Option, Some, None, Result, Ok, Err, inl, inr, refl, sym, ◌∙◌, ap}
 use Rattle.std.specs.Io.KnownBytes.{Appends}
 use Rattle.curve_paths.specs.declared.twist.TooLong.{TooLong}
 use Rattle.obd_doc.specs.Document.{book_read, refusal_of}
 use Rattle.obd_doc.specs.declared.book.Book.{Book}
 use Rattle.obd_doc.specs.declared.refusal.DocRefusal.{DocRefusal}
-use Rattle.obd_cli.specs.Run.{AnswersBuilt, AnswersDoc, Limited, Owes, Told, not_built, page_answer}
-use Rattle.obd_cli.specs.Refused.{limit_line}
-use Rattle.obd_cli.specs.Steps.{IsOverLimit}
+use Rattle.obd_cli.specs.Run.{AnswersBuilt, AnswersDoc, AnswersWords, GoesOverBudget, GoesOverLimit, Limited, Owes, Told, not_built, page_answer, too_long, usage}
 use Rattle.obd_cli.specs.Words.{book_words}
 use Rattle.obd_cli.proofs.Built.{no_slide_taken}
-use Rattle.obd_cli.proofs.OverLimit.{words_limited}
+use Rattle.obd_cli.proofs.OverLimit.{words_budget, words_limited}
 use Rattle.obd_cli.specs.declared.status.Answer.{Answer}
 use Rattle.obd_cli.specs.declared.status.Command.{Command}
 use Rattle.obd_cli.specs.declared.status.Command.TheVariants as command
 use Rattle.obd_cli.specs.declared.status.Status.{Status}
 use Rattle.obd_cli.specs.declared.status.Status.TheVariants as status
 
--- the answer of `page` hasn't this status
-page_unlimited : (book : Book) (found : Result (List (List ℕ)) TooLong) → (page_answer book found).status ≡ status.GeneratorLimit → ⊥
-page_unlimited book (Ok words) is = let bad = is in cc
-page_unlimited book (Err long) is = let bad = is in cc
+-- a status that comes for words of a book that go beyond a limit, and is none of those of other answers
+module _ (Goes : Book → List ℕ → Type 0) (ends : Status) (not_done : status.Done ≡ ends → ⊥) (not_refused : status.Refused ≡ ends → ⊥) (not_usage : status.Usage ≡ ends → ⊥)
+    (words_go : (book : Book) (found : Result (List (List ℕ)) TooLong) (answer : Answer) → book.slides ≡ [] → AnswersWords book found answer → answer.status ≡ ends → Goes book answer.text) where
+  -- the answer of `page` hasn't this status
+  page_stays : (book : Book) (found : Result (List (List ℕ)) TooLong) → (page_answer book found).status ≡ ends → ⊥
+  page_stays book (Ok words) is = not_done is
+  page_stays book (Err long) is = not_refused is
 
--- an answer with it is that of `decide` to such a book
-built_limited : (which : Command) (book : Book) (what : Option (List ℕ)) (answer : Answer) → not_built book ≡ what → AnswersBuilt which book what answer → answer.status ≡ status.GeneratorLimit
-    → (which ≡ command.Decide) × IsOverLimit book × (answer.text ≡ limit_line (book.limits.generators + 1))
-built_limited which book (Some what) answer taken answers is = absurd (let bad = sym is ∙ ap (λ (a : Answer). a.status) answers in cc)
-built_limited command.Decide book None answer taken answers is = let (over, text) = words_limited book (book_words book) answer (no_slide_taken book taken) answers is in (refl, over, text)
-built_limited command.Page book None answer taken answers is = absurd (page_unlimited book (book_words book) (sym (ap (λ (a : Answer). a.status) answers) ∙ is))
+  -- an answer with it is that of `decide` to such a book
+  built_goes : (which : Command) (book : Book) (what : Option (List ℕ)) (answer : Answer) → not_built book ≡ what → AnswersBuilt which book what answer → answer.status ≡ ends
+      → (which ≡ command.Decide) × Goes book answer.text
+  built_goes which book (Some what) answer taken answers is = absurd (not_refused (sym (ap (λ (a : Answer). a.status) answers) ∙ is))
+  built_goes command.Decide book None answer taken answers is = (refl, words_go book (book_words book) answer (no_slide_taken book taken) answers is)
+  built_goes command.Page book None answer taken answers is = absurd (page_stays book (book_words book) (sym (ap (λ (a : Answer). a.status) answers) ∙ is))
 
--- and so is one to a document
-doc_limited : (which : Command) (refusal : Option DocRefusal) (book : Option Book) (answer : Answer) → AnswersDoc which refusal book answer → answer.status ≡ status.GeneratorLimit
-    → (b : Book) × (book ≡ Some b) × (which ≡ command.Decide) × IsOverLimit b × (answer.text ≡ limit_line (b.limits.generators + 1))
-doc_limited which (Some refusal) book answer answers is = absurd (let bad = sym is ∙ ap (λ (a : Answer). a.status) answers in cc)
-doc_limited which None (Some book) answer answers is = let (decides, over, text) = built_limited which book (not_built book) answer refl answers is in (book, refl, decides, over, text)
-doc_limited which None None answer answers is = absurd answers
+  -- and so is one to a document
+  doc_goes : (which : Command) (refusal : Option DocRefusal) (book : Option Book) (answer : Answer) → AnswersDoc which refusal book answer → answer.status ≡ ends
+      → (b : Book) × (book ≡ Some b) × (which ≡ command.Decide) × Goes b answer.text
+  doc_goes which (Some refusal) book answer answers is = absurd (not_refused (sym (ap (λ (a : Answer). a.status) answers) ∙ is))
+  doc_goes which None (Some book) answer answers is = let (decides, goes) = built_goes which book (not_built book) answer refl answers is in (book, refl, decides, goes)
+  doc_goes which None None answer answers is = absurd answers
 
-owed_limited : (which : Option Command) (left now_left written now_written : Option (List ℕ)) (answer : Answer) → Owes which left now_left answer
-    → answer.status ≡ status.GeneratorLimit → Appends written now_written answer.text → Limited which left now_left written now_written
-owed_limited None left now_left written now_written answer owed is wrote = absurd (let bad = sym is ∙ ap (λ (a : Answer). a.status) owed in cc)
-owed_limited (Some which) left now_left written now_written answer (inr long) is wrote = absurd (let bad = sym is ∙ ap (λ (a : Answer). a.status) long.answers in cc)
-owed_limited (Some which) left now_left written now_written answer (inl all) is wrote =
-    let (book, read, decides, over, text) = doc_limited which (refusal_of all.bytes) (book_read all.bytes) answer all.answers is in
-    record {
-      decides = ap Some decides;
-      bytes = all.bytes;
-      gave = all.gave;
-      ended = all.ended;
-      book = book;
-      read = read;
-      over = over;
-      wrote = subst (Appends written now_written) text wrote;
-    }
+  owed_goes : (which : Option Command) (left now_left written now_written : Option (List ℕ)) (answer : Answer) → Owes which left now_left answer
+      → answer.status ≡ ends → Appends written now_written answer.text → Limited Goes which left now_left written now_written
+  owed_goes None left now_left written now_written answer owed is wrote = absurd (not_usage (sym (ap (λ (a : Answer). a.status) owed) ∙ is))
+  owed_goes (Some which) left now_left written now_written answer (inr long) is wrote = absurd (not_refused (sym (ap (λ (a : Answer). a.status) long.answers) ∙ is))
+  owed_goes (Some which) left now_left written now_written answer (inl all) is wrote =
+      let (book, read, decides, goes) = doc_goes which (refusal_of all.bytes) (book_read all.bytes) answer all.answers is in
+      record {
+        decides = ap Some decides;
+        bytes = all.bytes;
+        gave = all.gave;
+        ended = all.ended;
+        book = book;
+        read = read;
+        line = answer.text;
+        goes = goes;
+        wrote = wrote;
+      }
 
--- what was told with this status
+  -- what was told with this status
+  told_goes : (which : Option Command) (left now_left written now_written : Option (List ℕ)) (result : Status) → result ≡ ends
+      → Told which left now_left written now_written result → Limited Goes which left now_left written now_written
+  told_goes which left now_left written now_written result is told = owed_goes which left now_left written now_written told.answer told.owed (told.same ∙ is) told.wrote
+
+-- more generators than the limit
 pub limited_from_told : (which : Option Command) (left now_left written now_written : Option (List ℕ)) (result : Status) → result ≡ status.GeneratorLimit
-    → Told which left now_left written now_written result → Limited which left now_left written now_written
-limited_from_told which left now_left written now_written result is told = owed_limited which left now_left written now_written told.answer told.owed (told.same ∙ is) told.wrote
+    → Told which left now_left written now_written result → Limited GoesOverLimit which left now_left written now_written
+limited_from_told = told_goes GoesOverLimit status.GeneratorLimit (λ is. let bad = is in cc) (λ is. let bad = is in cc) (λ is. let bad = is in cc) words_limited
+
+-- more fingers than the limit
+pub budget_from_told : (which : Option Command) (left now_left written now_written : Option (List ℕ)) (result : Status) → result ≡ status.MoveBudget
+    → Told which left now_left written now_written result → Limited GoesOverBudget which left now_left written now_written
+budget_from_told = told_goes GoesOverBudget status.MoveBudget (λ is. let bad = is in cc) (λ is. let bad = is in cc) (λ is. let bad = is in cc) words_budget

@@ -1,17 +1,15 @@
--- The inner pieces of a table are as many as those of its drawing, and so are those that pass a test.
-use Rattle.std.proofs.Common.{◌≡◌, ℕ, ◌-◌, ◌<◌, Bool, true, false, not, List, [], ◌∷◌, filter, map, length, refl, sym, ◌∙◌, ap, subst, arith}
-use Rattle.std.specs.Prelude.{nat_lt}
+-- The inner pieces of a table are as many as those of its drawing.
+use Rattle.std.proofs.Common.{◌≡◌, ℕ, ◌<◌, Bool, true, false, not, List, [], ◌∷◌, filter, map, length, refl, sym, ◌∙◌, ap, subst, arith}
 use Rattle.std.proofs.lemmas.Bool.{eqb-true, not-true}
 use Rattle.std.proofs.lemmas.List.{length-map}
 use Rattle.obd_base.specs.Lists.{Mem, Once}
 use Rattle.obd_base.proofs.lists.Below.{mem_below, once_range}
 use Rattle.obd_base.proofs.lists.Members.{filter_mem, mem_filter, mem_to_map, no_longer, once_filter}
 use Rattle.page_surface.specs.Drawing.{Drawing}
-use Rattle.drawing.specs.Pieces.{badness, inner_pieces, is_base, piece_of, pieces, span_count, spans}
+use Rattle.drawing.specs.Pieces.{inner_pieces, is_base, piece_of, pieces, span_count, spans}
 use Rattle.drawing.proofs.Laws.{name_in_piece, name_listed}
 use Rattle.drawing.proofs.SamePiece.{table_at}
-use Rattle.region_table.specs.Table.{IsTableOf, Table, badness_of, name_at, region}
-use Rattle.obd_cli.specs.Run.{bad_pieces}
+use Rattle.region_table.specs.Table.{IsTableOf, Table, name_at, region}
 
 module _ (d : Drawing) (t : Table) (told : IsTableOf d t) where
   -- a piece is a span
@@ -58,11 +56,7 @@ module _ (d : Drawing) (t : Table) (told : IsTableOf d t) where
         let b = no_longer (filter by_span (inner_pieces d)) _ (once_filter by_span (inner_pieces d) inner_once) span_there in
         omega (arith, a, b, length-map (filter by_span (inner_pieces d)) (name_at t), length-map (filter by_name t.inner) (λ p. (region t p).first))
 
-  -- the bad pieces by the table
-  pub bad_as_many : length (filter (λ p. nat_lt 0 (badness_of (region t p))) t.inner) ≡ length (bad_pieces d)
-  bad_as_many = as_many (λ p. nat_lt 0 (badness_of (region t p))) (λ s. nat_lt 0 (badness d s)) (λ s l base. ap (λ n. nat_lt 0 (n - 2)) (sym (told.size s l base)))
-
-  -- and all inner pieces
+  -- all inner pieces
   pub inner_as_many : length t.inner ≡ length (inner_pieces d)
   inner_as_many = sym (ap length (all_kept t.inner)) ∙ (as_many (λ p. true) (λ s. true) (λ s l base. refl) ∙ ap length (all_kept (inner_pieces d)))
     where

@@ -1,4 +1,4 @@
--- The lines of refusals: `refused`, a code, a name and the values that the rule keeps. And the line of a limit.
+-- The lines of refusals: `refused`, a code, a name and the values that the rule keeps. And the lines of limits.
 use Rattle.std.specs.Prelude.{ℕ, List, [], ◌∷◌, ◌++◌, codes, decimal, map}
 use Rattle.curve_paths.specs.declared.refusal.CurveRefusal.{CurveRefusal}
 use Rattle.curve_paths.specs.declared.refusal.CurveRefusal.TheVariants as curve
@@ -62,3 +62,7 @@ doc_line doc.NoMemory = []
 -- the line that there are more generators than a limit, with the limit and one
 abbrev pub limit_line : ℕ → List ℕ
 limit_line over = line (codes "generator-limit") (decimal over ∷ [])
+
+-- the line that the strategy takes more fingers than a limit, with the limit and the weight that is left
+abbrev pub budget_line : ℕ → ℕ → List ℕ
+budget_line limit left = line (codes "move-budget") (map decimal (limit ∷ left ∷ []))

@@ -1,21 +1,25 @@
 -- What a run owes.
-use Rattle.std.specs.Prelude.{◌≡◌, ◌⊎◌, ℕ, ◌+◌, ◌≤◌, List, [], ◌∷◌, filter, length, codes, Bool, true, false, nat_lt, if◌then◌else◌, Option, Some, None, Result, Ok, Err}
+use Rattle.std.specs.Prelude.{◌≡◌, ◌⊎◌, ℕ, ◌+◌, ◌≤◌, List, [], ◌∷◌, length, codes, Bool, true, false, nat_lt, if◌then◌else◌, Option, Some, None, Result, Ok, Err}
 use Rattle.std.specs.Str.{bytes_eq}
 use Rattle.std.specs.Io.KnownBytes.{Consumes, Appends, IsAtEnd}
 use Rattle.obd_base.specs.Streams.{TookPrefix}
 use Rattle.page_surface.specs.Drawing.{Drawing}
 use Rattle.curve_paths.specs.declared.twist.TooLong.{TooLong}
-use Rattle.drawing.specs.Pieces.{badness, inner_pieces}
+use Rattle.drawing.specs.Fingers.{replayed}
+use Rattle.drawing.specs.Pieces.{inner_pieces}
 use Rattle.drawing.specs.Points.{generators}
 use Rattle.drawing.specs.Tight.{tight_drawing}
+use Rattle.region_table.specs.Nice.{weight}
+use Rattle.nice_plan.specs.Strategy.{strategy, within_limit}
 use Rattle.witness_check.specs.Belonging.{IsFirstDrawing}
 use Rattle.witness_check.specs.OpenBook.{joined_surface}
 use Rattle.obd_cli.specs.Opened.{open_book}
 use Rattle.obd_doc.specs.Document.{book_read, refusal_of}
 use Rattle.obd_doc.specs.declared.book.Book.{Book}
+use Rattle.obd_doc.specs.declared.limits.Limits.{Limits}
 use Rattle.obd_doc.specs.declared.refusal.DocRefusal.{DocRefusal}
-use Rattle.obd_cli.specs.Steps.{IsCertificateOf, IsOverLimit}
-use Rattle.obd_cli.specs.Refused.{doc_line, limit_line, refused_line}
+use Rattle.obd_cli.specs.Steps.{IsCertificateOf, IsOverBudget, IsOverLimit, last_of}
+use Rattle.obd_cli.specs.Refused.{budget_line, doc_line, limit_line, refused_line}
 use Rattle.witness_check.specs.Text.{certificate_text}
 use Rattle.obd_cli.specs.Words.{book_words, long_line, words_text}
 use Rattle.witness_check.specs.declared.certificate.Certificate.{Certificate}
@@ -61,17 +65,13 @@ pub record Certifies (book : Book) (answer : Answer) : Type 0 where
   pub belongs : IsCertificateOf book certificate
   pub text : answer.text ≡ certificate_text certificate
 
--- the pieces that stand in the way of a nice drawing: those that aren't base and have badness above 0
-abbrev pub bad_pieces : Drawing → List ℕ
-bad_pieces d = filter (λ s. nat_lt 0 (badness d s)) (inner_pieces d)
-
--- the greatest number of pieces that aren't base of a drawing that `decide` takes
+-- the greatest number of pieces that aren't base of a last drawing that `decide` takes
 abbrev pub most_pieces : ℕ
 most_pieces = 16
 
--- the answers in place of a certificate: to a first drawing with so many bad pieces,
-abbrev pub not_nice : ℕ → Answer
-not_nice bad = refused_with (refused_line 91 (codes "NotNice") [] (bad ∷ []))
+-- the answers in place of a certificate: to more fingers than a limit, by the limit and the weight that is left,
+abbrev pub over_budget : ℕ → ℕ → Answer
+over_budget limit left = record { status = status.MoveBudget; text = budget_line limit left }
 
 -- to more generators than a limit, by the limit and one,
 abbrev pub over_limit : ℕ → Answer
@@ -81,12 +81,17 @@ over_limit over = record { status = status.GeneratorLimit; text = limit_line ove
 abbrev pub not_small : ℕ → Answer
 not_small pieces = refused_with (refused_line 92 (codes "NotSmall") [] (pieces ∷ []))
 
--- which of them answers a first drawing, if one does
-abbrev pub stopped : ℕ → Drawing → Option Answer
-stopped limit d =
-    if nat_lt 0 (length (bad_pieces d)) then Some (not_nice (length (bad_pieces d))) else
-    if nat_lt limit (length (generators d)) then Some (over_limit (limit + 1)) else
-    if nat_lt most_pieces (length (inner_pieces d)) then Some (not_small (length (inner_pieces d))) else None
+-- what stands in place of the certificate of a last drawing, if something does
+abbrev pub stopped_last : ℕ → Drawing → Option Answer
+stopped_last limit last =
+    if nat_lt limit (length (generators last)) then Some (over_limit (limit + 1)) else
+    if nat_lt most_pieces (length (inner_pieces last)) then Some (not_small (length (inner_pieces last))) else None
+
+-- and of a first drawing
+abbrev pub stopped : Limits → Drawing → Option Answer
+stopped limits d =
+    if nat_lt limits.moves (length (strategy d)) then Some (over_budget limits.moves (weight (replayed d (within_limit limits.moves d)))) else
+    stopped_last limits.generators (last_of d)
 
 -- the drawing of words on the book's page joined
 abbrev pub drawing_of : Book → List (List ℕ) → Drawing
@@ -101,7 +106,7 @@ AnswersDrawing book None answer = Certifies book answer
 abbrev pub AnswersWords : Book → Result (List (List ℕ)) TooLong → Answer → Type 0
 AnswersWords book (Err long) answer = answer ≡ refused_with (long_line long)
 AnswersWords book (Ok words) answer =
-    IsFirstDrawing (open_book book) (joined_surface (open_book book)) (drawing_of book words) × AnswersDrawing book (stopped book.limits.generators (drawing_of book words)) answer
+    IsFirstDrawing (open_book book) (joined_surface (open_book book)) (drawing_of book words) × AnswersDrawing book (stopped book.limits (drawing_of book words)) answer
 
 -- the answer of `page`: the words, or the line of those that are too long
 abbrev pub page_answer : Book → Result (List (List ℕ)) TooLong → Answer
@@ -188,17 +193,26 @@ Finished (Some command.Decide) left now_left written now_written = Decided left 
 Finished (Some command.Page) left now_left written now_written = Paged left now_left written now_written
 Finished None left now_left written now_written = ⊥
 
--- the command is `decide`, the source was read to its end, and the line that the last drawing of the book of its bytes has more
--- generators than the book's limit, which it has, was written
-pub record Limited (which : Option Command) (left now_left written now_written : Option (List ℕ)) : Type 0 where
+-- the command is `decide`, the source was read to its end, and the book of its bytes goes beyond a limit in this sense, and the
+-- line that says so was written
+pub record Limited (Goes : Book → List ℕ → Type 0) (which : Option Command) (left now_left written now_written : Option (List ℕ)) : Type 0 where
   pub decides : which ≡ Some command.Decide
   pub bytes : List ℕ
   pub gave : Consumes left now_left bytes
   pub ended : IsAtEnd now_left
   pub book : Book
   pub read : book_read bytes ≡ Some book
-  pub over : IsOverLimit book
-  pub wrote : Appends written now_written (limit_line (book.limits.generators + 1))
+  pub line : List ℕ
+  pub goes : Goes book line
+  pub wrote : Appends written now_written line
+
+-- the book's last drawing has more generators than its limit, with the line that says so
+abbrev pub GoesOverLimit : Book → List ℕ → Type 0
+GoesOverLimit book line = IsOverLimit book × (line ≡ limit_line (book.limits.generators + 1))
+
+-- the strategy takes more fingers than the book's limit, with the line that says so
+abbrev pub GoesOverBudget : Book → List ℕ → Type 0
+GoesOverBudget book line = (left : ℕ) × IsOverBudget book left × (line ≡ budget_line book.limits.moves left)
 
 -- a status with a text of its own that a run ends with today
 abbrev pub has_text : Status → Bool
@@ -209,7 +223,7 @@ has_text status.Bad = false
 has_text status.ReadFault = false
 has_text status.WriteFault = false
 has_text status.GeneratorLimit = true
-has_text status.MoveBudget = false
+has_text status.MoveBudget = true
 has_text status.NoMemory = false
 
 -- a device failed, or memory was wanting
@@ -224,12 +238,17 @@ drawing_status None = status.Done
 -- the status of the answer of `decide`
 abbrev pub words_status : Book → Result (List (List ℕ)) TooLong → Status
 words_status book (Err long) = status.Refused
-words_status book (Ok words) = drawing_status (stopped book.limits.generators (drawing_of book words))
+words_status book (Ok words) = drawing_status (stopped book.limits (drawing_of book words))
 
--- the status of the answer to a book; with Done no last drawing to which a nice first one leads has too many generators
+-- the status of the answer to a book; with Done it keeps both limits, and with a limit's status it goes beyond that one
 abbrev pub HasBookStatus : Command → Book → Option (List ℕ) → Status → Type 0
 HasBookStatus command book (Some what) result = result ≡ status.Refused
-HasBookStatus command.Decide book None result = (result ≡ words_status book (book_words book)) × (result ≡ status.Done → IsOverLimit book → ⊥) × (result ≡ status.GeneratorLimit → IsOverLimit book)
+HasBookStatus command.Decide book None result =
+    (result ≡ words_status book (book_words book))
+    × (result ≡ status.Done → IsOverLimit book → ⊥)
+    × (result ≡ status.Done → (left : ℕ) → IsOverBudget book left → ⊥)
+    × (result ≡ status.GeneratorLimit → IsOverLimit book)
+    × (result ≡ status.MoveBudget → (left : ℕ) × IsOverBudget book left)
 HasBookStatus command.Page book None result = result ≡ (page_answer book (book_words book)).status
 
 -- the book of bytes that aren't too many

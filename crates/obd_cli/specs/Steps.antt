@@ -6,9 +6,10 @@ use Rattle.page_surface.specs.Polygon.{IsPolygon}
 use Rattle.arc_basis.specs.Basis.{joined_polygon}
 use Rattle.curve_paths.specs.Curves.{IsCurve}
 use Rattle.curve_paths.specs.Twists.{exits_of}
+use Rattle.drawing.specs.Fingers.{replayed}
 use Rattle.drawing.specs.Points.{contact_generator, generators}
-use Rattle.drawing.specs.declared.finger.Finger.{Finger}
-use Rattle.region_table.specs.Nice.{IsNice}
+use Rattle.region_table.specs.Nice.{weight}
+use Rattle.nice_plan.specs.Strategy.{strategy, within_limit}
 use Rattle.hkm_diagram.specs.Domains.{columns}
 use Rattle.mod2_rank.specs.Linear.{IsOutcomeOf}
 use Rattle.witness_check.specs.Belonging.{BelongsTo, IsFirstDrawing, LeadTo}
@@ -34,13 +35,11 @@ pub record IsSurfaceOf (book : Book) (s : Surface) : Type 0 where
   pub valid : IsPolygon (shown s).polygon
   pub curves : All (λ curve. IfSome curve (IsCurve (shown s).polygon)) s.curves
 
--- the strands of the first drawing, and legal fingers that lead from it to a nice one, none where it is nice; for now it is
+-- the strands of the first drawing, and the strategy's fingers, which are legal and lead from it to a nice one
 pub record IsMoved (first : Drawing) (m : Moved) : Type 0 where
   pub strands : m.strands ≡ first.strands
-  pub few : length m.fingers ≤ 20000
+  pub planned : m.fingers ≡ strategy first
   pub leads : LeadTo first m.fingers m.last
-  pub sparing : IsNice first → m.fingers ≡ []
-  pub same : m.last ≡ first
 
 -- the strands of the book's first drawing, and the fingers that lead from it to the last one
 pub record AreDrawings (book : Book) (s : Surface) (m : Moved) : Type 0 where
@@ -68,23 +67,33 @@ pub record AreLastLines (d : Drawing) (lines : LastLines) : Type 0 where
   pub finals : lines.finals ≡ d.strands
   pub points : lines.points ≡ contact_generator d
 
--- the certificate belongs to the book, takes no finger where the first drawing is nice, and has no more generators than the
--- book's limit
+-- the certificate belongs to the book, its fingers are the strategy's, and they and the generators are no more than the book's
+-- limits
 pub record IsCertificateOf (book : Book) (c : Certificate) : Type 0 where
   pub belongs : BelongsTo (open_book book) c
-  pub sparing : IsNice belongs.first → c.fingers ≡ []
+  pub planned : c.fingers ≡ strategy belongs.first
+  pub moves : length c.fingers ≤ book.limits.moves
   pub within : c.generators ≤ book.limits.generators
 
--- the last drawing, to which fingers lead from the book's first one, none where that is nice, has more generators than the
--- book's limit
+-- the drawing that the strategy's fingers make of a first one
+abbrev pub last_of : Drawing → Drawing
+last_of first = replayed first (strategy first)
+
+-- the strategy's fingers are no more than the book's limit, and the last drawing has more generators than the book's limit
 pub record IsOverLimit (book : Book) : Type 0 where
   pub surface : Shown
   pub surface_is : IsSurface (open_book book) surface
   pub first : Drawing
   pub first_is : IsFirstDrawing (open_book book) surface first
-  pub fingers : List Finger
-  pub few_fingers : length fingers ≤ 20000
-  pub last : Drawing
-  pub last_is : LeadTo first fingers last
-  pub sparing : IsNice first → fingers ≡ []
-  pub over : book.limits.generators < length (generators last)
+  pub moves : length (strategy first) ≤ book.limits.moves
+  pub over : book.limits.generators < length (generators (last_of first))
+
+-- the strategy's fingers are more than the book's limit, and this weight is left after the bursts that fit whole; it isn't 0
+pub record IsOverBudget (book : Book) (left : ℕ) : Type 0 where
+  pub surface : Shown
+  pub surface_is : IsSurface (open_book book) surface
+  pub first : Drawing
+  pub first_is : IsFirstDrawing (open_book book) surface first
+  pub over : book.limits.moves < length (strategy first)
+  pub left_is : left ≡ weight (replayed first (within_limit book.limits.moves first))
+  pub some : 1 ≤ left

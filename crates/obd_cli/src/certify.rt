@@ -3,14 +3,12 @@ ghost use Rattle.std.specs.Prelude.{◌≡◌, ℕ, ◌+◌, ◌<◌, ◌≤◌,
 ghost use Rattle.obd_base.specs.Lists.{below};
 ghost use Rattle.page_surface.specs.Polygon.{arc_count};
 ghost use Rattle.drawing.specs.Points.{contact_generator, crossings_of, generators as generators_of};
-ghost use Rattle.region_table.specs.Nice.{IsNice};
 ghost use Rattle.region_table.specs.Table.{IsTableOf};
-ghost use Rattle.witness_check.specs.Belonging.{IsFirstDrawing};
-ghost use Rattle.obd_cli.specs.Opened.{named_twists, open_book, paths_of};
-ghost use Rattle.obd_cli.specs.Steps.{AreDrawings, AreLastLines, ArePageLines, IsCertificateOf, IsComplexOf, IsSurfaceOf, shown};
+ghost use Rattle.obd_cli.specs.Opened.{named_twists, paths_of};
+ghost use Rattle.obd_cli.specs.Steps.{AreDrawings, AreLastLines, ArePageLines, IsCertificateOf, IsComplexOf, IsSurfaceOf};
 
 use crate::complex::{Complex, complex_of};
-use crate::moves::{Moved, make_nice, strands_of};
+use crate::moves::{Moved, strands_of};
 use crate::surface::Surface;
 use curve_paths::{NamedPath, NamedTwist, copied_path, page_names};
 use generator_list::Generators;
@@ -131,8 +129,10 @@ fn certificate_of(
 ) -> Result<Certificate, NoMemory>
     requires surface { IsSurfaceOf book.now surface.now }
     requires slides { book.now.slides ≡ [] }
-    requires limit { book.now.limits.generators ≤ 20000 }
+    requires most_moves { book.now.limits.moves ≤ 20000 }
+    requires most_generators { book.now.limits.generators ≤ 20000 }
     requires drawings { AreDrawings book.now surface.now moved }
+    requires moves { length moved.fingers ≤ book.now.limits.moves }
     requires complex { IsComplexOf moved.last book.now.limits.generators complex }
     ensures { IfOk result (IsCertificateOf book.now) }
 {
@@ -170,29 +170,28 @@ fn certificate_of(
     })
 }
 
-/// The certificate of a book without slides whose first drawing is nice and has at most 16 pieces that aren't base, with
-/// that drawing, its table of regions and its generators. Its cost is that of `complex_of`, and linear in the text that
-/// it makes.
+/// The certificate of a book without slides, from its first drawing, the fingers and the last drawing, which has at most 16
+/// pieces that aren't base, with the table of regions and the generators of that one. Its cost is that of `complex_of`, and linear in the text that it makes.
 pub(crate) fn certify(
     alloc: Global,
     book: &Book,
     surface: &Surface,
-    diagram: Diagram,
+    moved: Moved,
     regions: &Regions,
     generators: &Generators,
 ) -> Result<Certificate, NoMemory>
     requires surface { IsSurfaceOf book.now surface.now }
     requires slides { book.now.slides ≡ [] }
-    requires limit { book.now.limits.generators ≤ 20000 }
-    requires first { IsFirstDrawing (open_book book.now) (shown surface.now) diagram }
-    requires nice { IsNice diagram }
-    requires table { IsTableOf diagram regions.now }
-    requires generators { generators.now ≡ generators_of diagram }
+    requires most_moves { book.now.limits.moves ≤ 20000 }
+    requires most_generators { book.now.limits.generators ≤ 20000 }
+    requires drawings { AreDrawings book.now surface.now moved }
+    requires moves { length moved.fingers ≤ book.now.limits.moves }
+    requires table { IsTableOf moved.last regions.now }
+    requires generators { generators.now ≡ generators_of moved.last }
     requires within { length generators.now ≤ book.now.limits.generators }
     requires few { length regions.now.inner ≤ 16 }
     ensures { IfOk result (IsCertificateOf book.now) }
 {
-    let complex = complex_of(alloc, &diagram, regions, generators)?;
-    let moved = make_nice(alloc, diagram)?;
+    let complex = complex_of(alloc, &moved.last, regions, generators)?;
     certificate_of(alloc, book, surface, moved, complex)
 }

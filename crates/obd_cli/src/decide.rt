@@ -1,26 +1,27 @@
 // The answer of the command `decide`.
 ghost use Rattle.std.specs.Prelude.{◌≡◌, ◌≤◌, [], true, length, IfOk};
+ghost use Rattle.page_surface.specs.Drawing.{all_exits};
 ghost use Rattle.drawing.specs.Points.{generators as generators_of};
 ghost use Rattle.region_table.specs.Table.{IsTableOf};
 ghost use Rattle.witness_check.specs.Belonging.{IsFirstDrawing};
 ghost use Rattle.witness_check.specs.Text.{certificate_text};
 ghost use Rattle.obd_doc.specs.Document.{IsBook};
 ghost use Rattle.obd_cli.specs.Opened.{open_book};
-ghost use Rattle.obd_cli.specs.Run.{AnswersDrawing, AnswersWords, bad_pieces, has_text, not_nice, not_small, over_limit, stopped};
-ghost use Rattle.obd_cli.specs.Steps.{IsSurfaceOf, shown};
+ghost use Rattle.obd_cli.specs.Run.{AnswersDrawing, AnswersWords, has_text, not_small, over_budget, over_limit, stopped, stopped_last};
+ghost use Rattle.obd_cli.specs.Steps.{AreDrawings, IsSurfaceOf, shown};
 ghost use Rattle.obd_cli.specs.Words.{book_words as words_of_book};
 
 use crate::certify::certify;
 use crate::drawn::drawn;
+use crate::moves::{Moved, moved_to_nice};
 use crate::page::too_long;
-use crate::pieces::bad_count;
-use crate::refused::put_refused;
+use crate::refused::{put_limit, put_refused};
 use crate::status::{Answer, Status};
 use crate::surface::{Surface, surface_of};
 use drawing::Drawing;
 use generator_list::{Generators, ListRefusal, list};
-use hkm_diagram::Diagram;
 use monodromy::MonodromyRefusal;
+use nice_plan::PlanRefusal;
 use obd_base::{NoMemory, Text};
 use obd_doc::Book;
 use region_table::Regions;
@@ -29,14 +30,14 @@ use witness_check::{Certificate, print, put_line};
 
 const MOST_PIECES: usize = 16;
 
-// The answer to a book whose first drawing has so many bad pieces.
-fn not_nice(alloc: Global, bad: u64) -> Result<Answer, NoMemory>
-    ensures { IfOk result (λ answer. answer ≡ not_nice bad) }
+// The answer to a book whose strategy takes more fingers than its limit, by the limit and the weight that is left.
+fn over_budget(alloc: Global, limit: u32, weight: u64) -> Result<Answer, NoMemory>
+    ensures { IfOk result (λ answer. answer ≡ over_budget limit weight) }
 {
     let mut text = Text::new(alloc);
-    put_refused(&mut text, 91, "NotNice", &[], &[bad])?;
+    put_limit(&mut text, "move-budget", &[u64::from(limit), weight])?;
     Ok(Answer {
-        status: Status::Refused,
+        status: Status::MoveBudget,
         text,
     })
 }
@@ -75,31 +76,56 @@ fn certified(alloc: Global, certificate: &Certificate) -> Result<Answer, NoMemor
     })
 }
 
-// The answer to a first drawing that is nice and has no more generators than the book's limit.
+// The answer to a last drawing with no more generators than the book's limit.
 fn listed(
     alloc: Global,
     book: &Book,
     surface: &Surface,
-    diagram: Diagram,
+    moved: Moved,
     regions: &Regions,
     generators: &Generators,
 ) -> Result<Answer, NoMemory>
     requires surface { IsSurfaceOf book.now surface.now }
     requires slides { book.now.slides ≡ [] }
-    requires limit { book.now.limits.generators ≤ 20000 }
-    requires first { IsFirstDrawing (open_book book.now) (shown surface.now) diagram }
-    requires good { length (bad_pieces diagram) ≡ 0 }
-    requires table { IsTableOf diagram regions.now }
-    requires generators { generators.now ≡ generators_of diagram }
+    requires most_moves { book.now.limits.moves ≤ 20000 }
+    requires most_generators { book.now.limits.generators ≤ 20000 }
+    requires drawings { AreDrawings book.now surface.now moved }
+    requires moves { length moved.fingers ≤ book.now.limits.moves }
+    requires table { IsTableOf moved.last regions.now }
+    requires generators { generators.now ≡ generators_of moved.last }
     requires within { length generators.now ≤ book.now.limits.generators }
-    ensures { IfOk result (AnswersDrawing book.now (stopped book.now.limits.generators diagram)) }
+    ensures { IfOk result (AnswersDrawing book.now (stopped_last book.now.limits.generators moved.last)) }
 {
     let pieces = regions.inner().len();
     if pieces > MOST_PIECES {
         return not_small(alloc, pieces as u64);
     }
-    let certificate = certify(alloc, book, surface, diagram, regions, generators)?;
+    let certificate = certify(alloc, book, surface, moved, regions, generators)?;
     certified(alloc, &certificate)
+}
+
+// The answer to the last drawing, to which the fingers lead, with its table of regions.
+fn answer_to_last(
+    alloc: Global,
+    book: &Book,
+    surface: &Surface,
+    moved: Moved,
+    regions: &Regions,
+) -> Result<Answer, NoMemory>
+    requires surface { IsSurfaceOf book.now surface.now }
+    requires slides { book.now.slides ≡ [] }
+    requires most_moves { book.now.limits.moves ≤ 20000 }
+    requires most_generators { book.now.limits.generators ≤ 20000 }
+    requires drawings { AreDrawings book.now surface.now moved }
+    requires moves { length moved.fingers ≤ book.now.limits.moves }
+    requires table { IsTableOf moved.last regions.now }
+    ensures { IfOk result (AnswersDrawing book.now (stopped_last book.now.limits.generators moved.last)) }
+{
+    match list(alloc, moved.last.drawing(), book.limits.generators) {
+        Ok(generators) => listed(alloc, book, surface, moved, regions, &generators),
+        Err(ListRefusal::GeneratorLimit { over }) => over_limit(alloc, over),
+        Err(ListRefusal::NoMemory) => Err(NoMemory),
+    }
 }
 
 // The answer to a first drawing.
@@ -111,38 +137,30 @@ fn answer_to_drawing(
 ) -> Result<Answer, NoMemory>
     requires surface { IsSurfaceOf book.now surface.now }
     requires slides { book.now.slides ≡ [] }
-    requires limit { book.now.limits.generators ≤ 20000 }
-    requires first { IsFirstDrawing (open_book book.now) (shown surface.now) drawing }
-    ensures { IfOk result (AnswersDrawing book.now (stopped book.now.limits.generators drawing)) }
+    requires most_moves { book.now.limits.moves ≤ 20000 }
+    requires most_generators { book.now.limits.generators ≤ 20000 }
+    requires first { IsFirstDrawing (open_book book.now) (shown surface.now) drawing.drawing }
+    requires few { length (all_exits drawing.drawing) ≤ 4000 }
+    ensures { IfOk result (AnswersDrawing book.now (stopped book.now.limits drawing.drawing)) }
 {
-    let regions = Regions::of(alloc, &drawing)?;
-    let bad = bad_count(&regions);
-    if bad > 0 {
-        return not_nice(alloc, bad);
-    }
-    match list(alloc, &drawing, book.limits.generators) {
-        Ok(generators) => listed(
-            alloc,
-            book,
-            surface,
-            Diagram::of(drawing),
-            &regions,
-            &generators,
-        ),
-        Err(ListRefusal::GeneratorLimit { over }) => over_limit(alloc, over),
-        Err(ListRefusal::NoMemory) => Err(NoMemory),
+    let mut regions = Regions::of(alloc, &drawing)?;
+    match moved_to_nice(alloc, drawing, &mut regions, book.limits.moves) {
+        Ok(moved) => answer_to_last(alloc, book, surface, moved, &regions),
+        Err(PlanRefusal::MoveBudget { limit, weight }) => over_budget(alloc, limit, weight),
+        Err(PlanRefusal::NoMemory) => Err(NoMemory),
     }
 }
 
-/// The answer of `decide` to a book with one polygon and no slide: its certificate, where the first drawing is nice, has
-/// no more generators than the book's limit and at most 16 pieces that aren't base; else the line of the first of
-/// these that fails, or before them TooLong as for `page`. The cost is that of `monodromy::drawn`, of `Regions::of`,
-/// of `list` and of `columns_plain`.
+/// The answer of `decide` to a book with one polygon and no slide: its certificate, where the strategy takes no more
+/// fingers and the last drawing has no more generators than the book's limits, and at most 16 pieces that aren't base; else
+/// the line of the first of these that fails, or before them TooLong as for `page`. The cost is that of
+/// `monodromy::drawn`, of `Regions::of`, of `nice_plan::make_nice`, of `list`, of `columns_plain` and of `eliminate`.
 pub(crate) fn decided(alloc: Global, book: &Book) -> Result<Answer, NoMemory>
     requires valid { IsBook book.now }
     requires one { length book.now.page ≡ 1 }
     requires slides { book.now.slides ≡ [] }
-    requires limit { book.now.limits.generators ≤ 20000 }
+    requires most_moves { book.now.limits.moves ≤ 20000 }
+    requires most_generators { book.now.limits.generators ≤ 20000 }
     ensures answered { IfOk result (AnswersWords book.now (words_of_book book.now)) }
     ensures settled { IfOk result (λ answer. has_text answer.status ≡ true) }
 {

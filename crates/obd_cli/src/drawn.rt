@@ -1,7 +1,7 @@
 // The first drawing of a book.
-ghost use Rattle.std.specs.Prelude.{◌≡◌, Ok, Err, IfOk, IfErr};
+ghost use Rattle.std.specs.Prelude.{◌≡◌, ◌≤◌, length, Ok, Err, IfOk, IfErr};
 ghost use Rattle.arc_basis.specs.Basis.{joined_polygon};
-ghost use Rattle.page_surface.specs.Drawing.{words};
+ghost use Rattle.page_surface.specs.Drawing.{all_exits, words};
 ghost use Rattle.curve_paths.specs.declared.twist.TooLong.{TooLong};
 ghost use Rattle.drawing.specs.Tight.{tight_drawing};
 ghost use Rattle.witness_check.specs.Belonging.{IsFirstDrawing};
@@ -25,9 +25,10 @@ pub(crate) fn drawn(
 ) -> Result<Drawing, MonodromyRefusal>
     requires valid { IsBook book.now }
     requires surface { IsSurfaceOf book.now surface.now }
-    ensures first { IfOk result (IsFirstDrawing (open_book book.now) (shown surface.now)) }
-    ensures words { IfOk result (λ drawing. words_of_book book.now ≡ Ok (words drawing)) }
-    ensures tight { IfOk result (λ drawing. drawing ≡ tight_drawing (joined_polygon surface.now.basis) (words drawing)) }
+    ensures first { IfOk result (λ drawing. IsFirstDrawing (open_book book.now) (shown surface.now) drawing.drawing) }
+    ensures words { IfOk result (λ drawing. words_of_book book.now ≡ Ok (words drawing.drawing)) }
+    ensures few { IfOk result (λ drawing. length (all_exits drawing.drawing) ≤ 4000) }
+    ensures tight { IfOk result (λ drawing. drawing.drawing ≡ tight_drawing (joined_polygon surface.now.basis) (words drawing.drawing)) }
     ensures long { IfErr result (λ refusal. (long : TooLong) → refusal ≡ MonodromyRefusal.TooLong long → words_of_book book.now ≡ Err long) }
 {
     let polygon = surface.basis.polygon();

@@ -12,7 +12,6 @@ mod decide;
 mod drawn;
 mod moves;
 mod page;
-mod pieces;
 mod refused;
 mod status;
 mod surface;

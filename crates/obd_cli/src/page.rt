@@ -57,7 +57,7 @@ fn worded(
     drawing: &Drawing,
 ) -> Result<Answer, NoMemory>
     requires { IsSurfaceOf book.now surface.now }
-    ensures { IfOk result (λ answer. answer ≡ page_answer book.now (Ok (words drawing.now))) }
+    ensures { IfOk result (λ answer. answer ≡ page_answer book.now (Ok (words drawing.now.drawing))) }
 {
     let words = drawing.words(alloc)?;
     Ok(Answer {

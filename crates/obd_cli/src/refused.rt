@@ -1,6 +1,6 @@
 // The lines of refusals.
 ghost use Rattle.std.specs.Prelude.{◌≡◌, ◌++◌, ◌∷◌, decimal, map, OnOk};
-ghost use Rattle.witness_check.specs.Line.{spaced};
+ghost use Rattle.witness_check.specs.Line.{line, spaced};
 ghost use Rattle.obd_cli.specs.Refused.{curve_line, doc_line, field_word, page_line, refused_line};
 
 use curve_paths::CurveRefusal;
@@ -46,6 +46,16 @@ pub(crate) fn put_refused(
     text.put(" ")?;
     text.put(name)?;
     put_texts(text, words)?;
+    put_numbers(text, numbers)?;
+    text.put("\n")
+}
+
+/// Appends the line of a limit that isn't kept, by its name and numbers.
+#[tactic(auto, unfolding(witness_check::specs::Line::line))]
+pub(crate) fn put_limit(text: &mut Text, name: &str, numbers: &[u64]) -> Result<(), NoMemory>
+    ensures { OnOk result (text.new ≡ text.old ++ line name.now (map decimal numbers.now)) }
+{
+    text.put(name)?;
     put_numbers(text, numbers)?;
     text.put("\n")
 }

@@ -5,7 +5,7 @@ ghost use Rattle.obd_base.specs.Causes.{Rose};
 ghost use Rattle.obd_base.specs.Streams.{TookPrefix};
 ghost use Rattle.obd_doc.specs.Document.{IsBook};
 ghost use Rattle.obd_cli.specs.Refused.{doc_line, refused_line};
-ghost use Rattle.obd_cli.specs.Run.{AnswersAll, AnswersBook, AnswersBytes, AnswersBuilt, AnswersLong, CutShort, Finished, HasStatus, IsFault, Limited, Owes, Told, command_of, has_text, not_built, refused_with, too_long, usage};
+ghost use Rattle.obd_cli.specs.Run.{AnswersAll, AnswersBook, AnswersBytes, AnswersBuilt, AnswersLong, CutShort, Finished, GoesOverBudget, GoesOverLimit, HasStatus, IsFault, Limited, Owes, Told, command_of, has_text, not_built, refused_with, too_long, usage};
 ghost use Rattle.obd_cli.specs.declared.status.Command.{Command as Which};
 
 use crate::decide::decided;
@@ -102,7 +102,8 @@ fn not_built(book: &Book) -> Option<&'static str>
 fn answer_taken(alloc: Global, command: Command, book: &Book) -> Result<Answer, NoMemory>
     requires valid { IsBook book.now }
     requires taken { not_built book.now ≡ None }
-    requires limit { book.now.limits.generators ≤ 20000 }
+    requires most_moves { book.now.limits.moves ≤ 20000 }
+    requires most_generators { book.now.limits.generators ≤ 20000 }
     ensures answered { IfOk result (AnswersBuilt command book.now None) }
     ensures settled { IfOk result (λ answer. has_text answer.status ≡ true) }
 {
@@ -115,7 +116,8 @@ fn answer_taken(alloc: Global, command: Command, book: &Book) -> Result<Answer, 
 // The answer to a book.
 fn answer_to_book(alloc: Global, command: Command, book: &Book) -> Result<Answer, NoMemory>
     requires valid { IsBook book.now }
-    requires limit { book.now.limits.generators ≤ 20000 }
+    requires most_moves { book.now.limits.moves ≤ 20000 }
+    requires most_generators { book.now.limits.generators ≤ 20000 }
     ensures answered { IfOk result (AnswersBook command book.now) }
     ensures settled { IfOk result (λ answer. has_text answer.status ≡ true) }
 {
@@ -221,13 +223,13 @@ fn run_words<S: Source, K: Sink>(
 
 /// One run of the program. The words after the program's own name decide the command, which for now is a single
 /// word. Both commands read a document from the source: `decide` writes the certificate of its open book, where the
-/// first drawing is nice and has at most 16 pieces that aren't base, or a line that it isn't nice, isn't small, or has more
-/// generators than the book's limit; and `page` writes the seams, the basis and the words of its strands.
+/// strategy takes no more fingers and the last drawing has no more generators than the book's limits, and at most 16 pieces
+/// that aren't base, or a line that tells which of these fails; and `page` writes the seams, the basis and the words of its strands.
 ///
 /// The whole text is built before the first write. Where a device fails, its fault takes the place of the
 /// status whose text was owed; `NoMemory` may come at any step that takes memory, before the first write.
 /// Linear in the bytes that are read, but for the order of the fields of a JSON object. With `page` the cost is that of
-/// `monodromy::drawn` besides, and with `decide` also that of `columns_plain` and of `eliminate`.
+/// `monodromy::drawn` besides, and with `decide` also that of `nice_plan::make_nice`, of `columns_plain` and of `eliminate`.
 pub fn run<S: Source, K: Sink>(
     alloc: Global,
     words: &[String],
@@ -241,7 +243,11 @@ pub fn run<S: Source, K: Sink>(
 
     // GeneratorLimit comes with `decide` alone, where the last drawing of the book of the bytes that were read has more
     // generators than the book's limit.
-    ensures limited { result ≡ Status.GeneratorLimit → Limited (command_of (map string_bytes words.now))
+    ensures limited { result ≡ Status.GeneratorLimit → Limited GoesOverLimit (command_of (map string_bytes words.now))
+        (S.left source.old) (S.left source.new) (K.written sink.old) (K.written sink.new) }
+
+    // MoveBudget comes with `decide` alone, where the strategy takes more fingers than the book's limit.
+    ensures budget { result ≡ Status.MoveBudget → Limited GoesOverBudget (command_of (map string_bytes words.now))
         (S.left source.old) (S.left source.new) (K.written sink.old) (K.written sink.new) }
 
     // Each status with a text: the text that is owed was written, whole.
@@ -262,8 +268,9 @@ pub fn run<S: Source, K: Sink>(
     ensures unwritten { (result ≡ Status.ReadFault) ⊎ (result ≡ Status.NoMemory) → sink.new ≡ sink.old }
 
     // For bytes that the source tells, the status is that of the answer to them, but for a fault or want of memory:
-    // with `decide` it goes by the book's words and their drawing; GeneratorLimit only where the last drawing has more
-    // generators than the limit, and Done only where it has no more.
+    // with `decide` it goes by the book's words and their drawing: MoveBudget exactly where the strategy takes more fingers
+    // than the limit, else GeneratorLimit exactly where the last drawing has more generators than the limit, else NotSmall where
+    // it has more than 16 pieces that aren't base, and else Done.
     ensures complete { (bytes : List ℕ) (command : Which) → command_of (map string_bytes words.now) ≡ Some command
         → S.left source.old ≡ Some bytes → HasStatus command bytes result ⊎ IsFault result }
     ensures ended { has_text result ≡ true ⊎ IsFault result }

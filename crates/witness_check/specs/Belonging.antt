@@ -1,7 +1,7 @@
 -- The book that a certificate belongs to.
-use Rattle.std.specs.Prelude.{◌≡◌, ℕ, pos, ◌-ℤ◌, ◌+◌, ◌*◌, ◌≤◌, List, [], ◌∷◌, length, slice_get, Some, Ok}
+use Rattle.std.specs.Prelude.{◌≡◌, ℕ, pos, ◌-ℤ◌, ◌+◌, ◌*◌, ◌≤◌, List, [], length, slice_get, Some, Ok}
 use Rattle.page_surface.specs.Drawing.{Drawing, IsEmbedded}
-use Rattle.drawing.specs.Fingers.{IsLegal, pushed, replayed}
+use Rattle.drawing.specs.Fingers.{AllLegal, replayed}
 use Rattle.drawing.specs.Points.{contact_generator, generators}
 use Rattle.drawing.specs.Tight.{IsTight, tight_drawing}
 use Rattle.drawing.specs.declared.finger.Finger.{Finger}
@@ -18,11 +18,6 @@ pub record IsFirstDrawing (book : OpenBook) (s : Surface) (d : Drawing) : Type 0
   pub drawn : d ≡ tight_drawing s.polygon words
   pub embedded : IsEmbedded d
   pub tight : IsTight d
-
--- each finger is legal after those before it
-abbrev pub AllLegal : Drawing → List Finger → Type 0
-AllLegal d [] = Unit {0}
-AllLegal d (f ∷ fs) = IsLegal d f × AllLegal (pushed d f) fs
 
 -- legal fingers lead from the first drawing to the last one, which is embedded and nice
 pub record LeadTo (first : Drawing) (fingers : List Finger) (last : Drawing) : Type 0 where

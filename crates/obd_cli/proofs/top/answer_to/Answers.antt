@@ -1,7 +1,7 @@
 use Rattle.std.proofs.Common.{sym}
 use Rattle.obd_doc.proofs.Laws.{read_is_book}
 use Rattle.obd_cli.proofs.Built.{book_answers}
-use Rattle.obd_cli.proofs.LimitRead.{limit_read}
+use Rattle.obd_cli.proofs.LimitRead.{limits_read}
 use Rattle.obd_cli.proofs.top.answer_to.Goals as goal
 
 pub returns-in-Ok-clause-answered : goal.returns-in-Ok-clause-answered
@@ -10,5 +10,8 @@ returns-in-Ok-clause-answered c = book_answers c.args.command c.args.bytes.now c
 pub answer_to_book-requires-clause-valid : goal.answer_to_book-requires-clause-valid
 answer_to_book-requires-clause-valid c = read_is_book c.args.bytes.now c.in-Ok.book c.in-Ok.ensures.accepted
 
-pub answer_to_book-requires-clause-limit : goal.answer_to_book-requires-clause-limit
-answer_to_book-requires-clause-limit c = limit_read c.args.bytes.now c.in-Ok.book c.in-Ok.ensures.accepted
+pub answer_to_book-requires-clause-most_moves : goal.answer_to_book-requires-clause-most_moves
+answer_to_book-requires-clause-most_moves c = (limits_read c.args.bytes.now c.in-Ok.book c.in-Ok.ensures.accepted).0
+
+pub answer_to_book-requires-clause-most_generators : goal.answer_to_book-requires-clause-most_generators
+answer_to_book-requires-clause-most_generators c = (limits_read c.args.bytes.now c.in-Ok.book c.in-Ok.ensures.accepted).1

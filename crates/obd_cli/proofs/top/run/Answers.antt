@@ -1,6 +1,6 @@
 use Rattle.std.proofs.Common.{refl}
 use Rattle.obd_cli.proofs.Decides.{completed, finished_from_told, usage_told}
-use Rattle.obd_cli.proofs.Limits.{limited_from_told}
+use Rattle.obd_cli.proofs.Limits.{budget_from_told, limited_from_told}
 use Rattle.obd_cli.proofs.top.run.Goals as goal
 
 pub returns-clause-done : goal.returns-clause-done
@@ -14,3 +14,6 @@ returns-clause-usage g c = λ usage. usage_told _ _ _ _ _ _ usage (c.run_words.e
 
 pub returns-clause-limited : goal.returns-clause-limited
 returns-clause-limited g c = λ limited. limited_from_told _ _ _ _ _ _ limited (c.run_words.ensures.told (rw limited refl))
+
+pub returns-clause-budget : goal.returns-clause-budget
+returns-clause-budget g c = λ budget. budget_from_told _ _ _ _ _ _ budget (c.run_words.ensures.told (rw budget refl))
