@@ -40,7 +40,7 @@ pub(crate) fn read(
 
 // Puts the exits of one strand.
 fn put_strand(text: &mut String, drawing: &Drawing, strand: StrandNo) -> Result<(), Stop>
-    requires { strand < arc_count drawing.now.polygon }
+    requires { strand < arc_count drawing.now.drawing.polygon }
 {
     let exits = drawing.exits(strand)?;
     put_exits(text, &exits)?;
@@ -61,7 +61,7 @@ fn put_strands(text: &mut String, drawing: &Drawing) -> Result<(), Stop> {
 
 // Puts the chords and the word of one strand.
 fn put_word(text: &mut String, drawing: &Drawing, strand: StrandNo) -> Result<(), Stop>
-    requires { strand < arc_count drawing.now.polygon }
+    requires { strand < arc_count drawing.now.drawing.polygon }
 {
     write!(text, "; {} chords", drawing.chords(strand))?;
     let word = drawing.word(strand)?;

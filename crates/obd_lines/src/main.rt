@@ -9,6 +9,7 @@ mod columns;
 mod curves;
 mod drawings;
 mod exits;
+mod fingers;
 mod generators;
 mod monodromies;
 mod pages;
@@ -20,6 +21,7 @@ mod words;
 use columns::columns_told;
 use curves::{curve_told, image_told};
 use drawings::{drawing_told, identity_told, tight_told};
+use fingers::fingers_told;
 use generators::generators_told;
 use monodromies::monodromy_told;
 use pages::page_told;
@@ -30,7 +32,7 @@ use stop::Stop;
 use words::word_told;
 
 /// The files of rows.
-const FILES: [&str; 11] = [
+const FILES: [&str; 12] = [
     "pages",
     "curves",
     "words",
@@ -38,6 +40,7 @@ const FILES: [&str; 11] = [
     "drawings",
     "identities",
     "tight",
+    "fingers",
     "monodromies",
     "regions",
     "generators",
@@ -54,6 +57,7 @@ fn answer(alloc: Global, file: &str, given: &str) -> Result<String, Stop> {
         "drawings" => drawing_told(alloc, given),
         "identities" => identity_told(alloc, given),
         "tight" => tight_told(alloc, given),
+        "fingers" => fingers_told(alloc, given),
         "monodromies" => monodromy_told(alloc, given),
         "regions" => regions_told(alloc, given),
         "generators" => generators_told(alloc, given),

@@ -32,8 +32,8 @@ fn regions_of(alloc: Global, drawing: &Drawing) -> Result<String, Stop> {
 }
 
 fn regions_on(alloc: Global, drawing: &Drawing, regions: &Regions) -> Result<String, Stop>
-    requires table { IsTableOf drawing.now regions.now }
-    requires distances { HasDistances drawing.now regions.now }
+    requires table { IsTableOf drawing.now.drawing regions.now }
+    requires distances { HasDistances drawing.now.drawing regions.now }
 {
     // That a drawing has points says that it is embedded.
     let _ = drawing.points();
@@ -49,7 +49,7 @@ fn regions_on(alloc: Global, drawing: &Drawing, regions: &Regions) -> Result<Str
 
 // Puts the pieces of the segments of all sides.
 fn put_sides(text: &mut String, drawing: &Drawing, regions: &Regions) -> Result<(), Stop>
-    requires table { IsTableOf drawing.now regions.now }
+    requires table { IsTableOf drawing.now.drawing regions.now }
 {
     for side in 0..drawing.polygon().sides() {
         if side > 0 {
@@ -67,8 +67,8 @@ fn put_side(
     regions: &Regions,
     side: SideNo,
 ) -> Result<(), Stop>
-    requires table { IsTableOf drawing.now regions.now }
-    requires side { side < sides drawing.now.polygon }
+    requires table { IsTableOf drawing.now.drawing regions.now }
+    requires side { side < sides drawing.now.drawing.polygon }
 {
     for segment in 0..drawing.points_on(side) + 1 {
         write!(text, "{} ", regions.piece_at(side, segment).number())?;
@@ -78,8 +78,8 @@ fn put_side(
 
 // Puts the pieces that aren't base.
 fn put_inner(text: &mut String, drawing: &Drawing, regions: &Regions) -> Result<(), Stop>
-    requires table { IsTableOf drawing.now regions.now }
-    requires distances { HasDistances drawing.now regions.now }
+    requires table { IsTableOf drawing.now.drawing regions.now }
+    requires distances { HasDistances drawing.now.drawing regions.now }
 {
     let _ = drawing.points();
     for piece in regions.inner() {

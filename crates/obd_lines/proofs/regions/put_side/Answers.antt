@@ -4,7 +4,7 @@ use Rattle.obd_lines.proofs.regions.put_side.Goals as goal
 
 pub piece_at-requires-clause-segment : goal.piece_at-requires-clause-segment
 piece_at-requires-clause-segment c =
-    let d = c.args.drawing.now in
+    let d = c.args.drawing.now.drawing in
     let t = c.args.regions.now in
     let points = points_are d t c.requires.table c.args.side (omega (arith, c.requires.side, sides_are d t c.requires.table)) in
     omega (arith, points, c.points_on-segment-end.ensures.value, c.loop-segment-test.true)
