@@ -22,7 +22,7 @@ use std::alloc::Global;
 use std::marker::Model;
 
 /// The tables by which the domains of a diagram are walked, made once for all its generators. Contracts say by
-/// `AreWalksOf` whose they are. Sixteen bytes for each point on each of its two sides.
+/// `AreWalksOf` whose they are. Twenty bytes for each point on each of its two sides.
 pub struct Walks {
     tables: Tables,
     starts: Vec<u32>,
