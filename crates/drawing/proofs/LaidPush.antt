@@ -12,7 +12,7 @@ use Rattle.drawing.specs.Layout.{IsLaidOut, drawn}
 use Rattle.drawing.specs.PushTables.{pushed_rows, raised_side}
 use Rattle.drawing.specs.Room.{HaveRoom, rows}
 use Rattle.drawing.proofs.Lists.{written_back}
-use Rattle.drawing.proofs.PushTables.{far_small, laid_pushed, near_small, place_small, rows_pushed, start_small}
+use Rattle.drawing.proofs.PushTables.{far_small, laid_pushed, near_small, place_small, rows_pushed, side_small, start_small}
 
 module _ {A : Type 0} (p : Polygon) (vs : List (Vec Exit A)) (d : Drawing) (seen : drawn p (rows vs) ≡ d) (offsets : List ℕ) (laid : IsLaidOut (drawn p (rows vs)) offsets) (ok : IsEmbedded d)
     (f : Finger) (r : InRange d f) (o : ℕ) (small : o ≤ 1) where
@@ -37,6 +37,10 @@ module _ {A : Type 0} (p : Polygon) (vs : List (Vec Exit A)) (d : Drawing) (seen
   -- all places can be told in 30 bits
   pub places_there : (shown : List (Vec Exit A)) → shown ≡ vs → (strand : List Exit) → Mem strand (rows shown) → (e : Exit) → Mem e strand → e.place < 2 ^ 30
   places_there shown same strand ms = place_small here ok_here f o small range_here offsets laid strand (subst (λ ws. Mem strand (rows ws)) same ms)
+
+  -- and all sides in 4
+  pub sides_there : (shown : List (Vec Exit A)) → shown ≡ vs → (strand : List Exit) → Mem strand (rows shown) → (e : Exit) → Mem e strand → e.side < 16
+  sides_there shown same strand ms = side_small here ok_here f o small range_here offsets laid strand (subst (λ ws. Mem strand (rows ws)) same ms)
 
   pub near_there : (near : Exit) → near ≡ exit f.side f.segment → near.place < 2 ^ 30
   near_there near is = omega (arith, near_small here ok_here f o small range_here offsets laid, ap (λ e. e.place) is)

@@ -1,3 +1,4 @@
+mod Bordering
 pub mod Boundary
 pub mod ChordTree
 pub mod CutAlways
@@ -29,6 +30,9 @@ pub mod Placed
 mod PlaceTables
 mod PushKept
 mod PushTables
+mod PushStrands
+mod PutStrands
+mod RaiseTables
 mod RoomTables
 pub mod RoundPiece
 pub mod SamePiece
@@ -50,3 +54,4 @@ pub mod TreeLaws
 mod TurnAt
 mod TurnLeft
 mod TurnTables
+mod Windows

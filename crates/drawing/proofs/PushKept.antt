@@ -1,24 +1,32 @@
 -- What is kept of a drawing into which a finger is pushed.
 use Rattle.std.proofs.Common.{◌≡◌, ℕ, suc, ◌+◌, ◌≤◌, cond, Bool, List, length, sym, ◌∙◌, ap, subst, arith}
 use Rattle.obd_base.proofs.lists.Sums.{bit-le}
-use Rattle.page_surface.specs.Drawing.{IsEmbedded, IsPlaced, all_exits, chords}
+use Rattle.obd_base.specs.declared.points.Exit.{Exit}
+use Rattle.page_surface.specs.Drawing.{IsEmbedded, all_exits, chords, points_on}
 use Rattle.drawing.specs.declared.finger.Finger.{Finger}
-use Rattle.drawing.specs.Fingers.{InRange, IsLegal, chord_at, entered, pushed, with_letters}
+use Rattle.drawing.specs.Fingers.{InRange, IsLegal, chord_at, entered, entered_beyond, glued_to, pushed, with_letters}
 use Rattle.drawing.specs.Kept.{IsKept}
 use Rattle.drawing.specs.Pieces.{same_piece, span_count}
 use Rattle.drawing.specs.Room.{Roomy}
 use Rattle.drawing.specs.Strands.{IsStrandTable}
-use Rattle.drawing.proofs.Ends.{placed}
+use Rattle.drawing.specs.PushTables.{IsPutIn}
+use Rattle.drawing.proofs.PushStrands.{strands_pushed}
 use Rattle.drawing.proofs.PushTables.{exits_pushed, spans_pushed}
+use Rattle.drawing.proofs.fingers.NewPlaces.{far_in}
 use Rattle.drawing.proofs.fingers.Effects.{later_first, pushed_embedded, pushed_is, range_of}
 
 module _ (l d : Roomy) (same : l ≡ d) (f : Finger) (legal : IsLegal d.drawing f) where
-  legal_here : IsLegal l.drawing f
+  -- the finger is legal in the drawing that is kept
+  pub legal_here : IsLegal l.drawing f
   legal_here = subst (λ (r : Roomy). IsLegal r.drawing f) (sym same) legal
 
   -- the finger's numbers are in range
   pub in_range : InRange l.drawing f
   in_range = range_of l.drawing f legal_here
+
+  -- the segment glued to the finger's is there
+  pub far_within : IsEmbedded l.drawing → (e : Exit) → e ≡ glued_to l.drawing f → e.place ≤ points_on l.drawing e.side
+  far_within ok e is = rw is (far_in l.drawing ok f 0 (omega arith) in_range)
 
   module _ (ok : IsEmbedded l.drawing) (out : ℕ) (is_out : out ≡ cond (same_piece (chords l.drawing) (chord_at l.drawing f.strand f.chord).from (entered l.drawing f)) 1 0) where
     pub out_small : out ≤ 1
@@ -36,10 +44,7 @@ module _ (l d : Roomy) (same : l ≡ d) (f : Finger) (legal : IsLegal d.drawing 
       pub is_pushed : n.drawing ≡ pushed d.drawing f
       is_pushed = made ∙ (is_effect ∙ ap (λ (r : Roomy). pushed r.drawing f) same)
 
-      pub placed_after : IsPlaced n.drawing
-      placed_after = subst IsPlaced (sym made) (placed _ after)
-
-      pub spans_after : span_count n.drawing ≡ span_count l.drawing + 4
+      spans_after : span_count n.drawing ≡ span_count l.drawing + 4
       spans_after = ap span_count made ∙ spans_pushed l.drawing ok f out out_small in_range
 
       exits_after : length (all_exits n.drawing) ≡ length (all_exits l.drawing) + 2
@@ -57,3 +62,10 @@ module _ (l d : Roomy) (same : l ≡ d) (f : Finger) (legal : IsLegal d.drawing 
         gone_room = omega (arith, kept.gone_room, room, spans_after);
         places_room = omega (arith, kept.places_room, room, spans_after);
       }
+
+      -- and the table of strands is that of the drawing then
+      pub strands_after : (table strands : List ℕ) (near far : ℕ) → IsStrandTable l.drawing table → near ≡ entered l.drawing f → far ≡ entered_beyond l.drawing f
+          → IsPutIn f.strand near far table strands → IsStrandTable n.drawing strands
+      strands_after table strands near far told one other put =
+          let there = subst (λ x. IsPutIn f.strand x (entered_beyond l.drawing f) table strands) one (subst (λ x. IsPutIn f.strand near x table strands) other put) in
+          subst (λ x. IsStrandTable x strands) (sym made) (strands_pushed l.drawing ok f out out_small in_range table strands told there after)

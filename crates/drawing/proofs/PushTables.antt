@@ -133,6 +133,10 @@ module _ (d : Drawing) (ok : IsEmbedded d) (f : Finger) (o : ℕ) (small : o ≤
         let m = mem_flat (λ s. s) d.strands strand e ms me in
         omega (arith, place_in d ok e m, (spot_read d d refl offsets laid e.side e.side refl (side_in d ok e m)).1)
 
+    -- and a side that can be told in 4
+    pub side_small : (strand : List Exit) → Mem strand d.strands → (e : Exit) → Mem e strand → e.side < 16
+    side_small strand ms e me = omega (arith, side_in d ok e (mem_flat (λ s. s) d.strands strand e ms me), laid.written.few_sides)
+
     -- so have the two segments
     pub near_small : f.segment < 2 ^ 30
     near_small = omega (arith, r.segment, (spot_read d d refl offsets laid f.side f.side refl r.side).1)

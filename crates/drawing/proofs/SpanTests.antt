@@ -1,18 +1,34 @@
--- Where a chord begins, and the test of a strand's chords one by one.
-use Rattle.std.proofs.Common.{◌≡◌, ℕ, zero, suc, ◌+◌, ◌-◌, ◌<◌, ◌≤◌, Bool, true, false, ◌||◌, List, [], ◌∷◌, drop, get_or, length, refl, sym, subst, ◌∙◌, ap, ap₂, arith}
+-- Where a chord begins and ends, and the test of a strand's chords one by one.
+use Rattle.std.proofs.Common.{◌≡◌, ℕ, zero, suc, ◌+◌, ◌-◌, ◌<◌, ◌≤◌, Bool, true, false, eqb, not, ◌&&◌, ◌||◌, List, [], ◌∷◌, drop, get_or, length, take, refl, sym, subst, ◌∙◌, ap, ap₂, arith}
+use mathlib.Core.Bool.{beq}
 use Rattle.std.specs.List.{flat_map, list_any}
-use Rattle.std.proofs.lemmas.List.{drop_all, drop_more}
-use Rattle.std.proofs.lemmas.List.Folds.{list_any-append}
+use Rattle.std.proofs.lemmas.List.{take-append-drop, take_all}
+use Rattle.std.proofs.lemmas.List.Folds.{list_any-append, list_any_more}
 use Rattle.obd_base.specs.declared.points.Exit.{Exit}
 use Rattle.obd_base.specs.Lists.{below}
 use Rattle.obd_base.proofs.lists.Below.{below_mem, below_push}
-use Rattle.page_surface.specs.Drawing.{Chord, Drawing, IsPlaced, chords, cut_strand, end_of, entry, exit, points_on, spot, strand_chords, strand_exits}
+use Rattle.page_surface.specs.Drawing.{Chord, Drawing, IsPlaced, cut_strand, differ, end_of, entry, points_on, spot, strand_chords, strand_exits}
 use Rattle.page_surface.specs.Polygon.{first_side, second_side, sides}
-use Rattle.drawing.specs.Fingers.{borders, chord_at}
-use Rattle.drawing.specs.Pieces.{same_piece}
+use Rattle.drawing.specs.Fingers.{chord_at}
+use Rattle.drawing.specs.Pieces.{between, parts_from}
+use Rattle.drawing.proofs.Bordering.{separates_told}
+use Rattle.drawing.proofs.fingers.NewChords.{length_cut}
 use Rattle.drawing.proofs.Lists.{mem_flat}
 use Rattle.drawing.proofs.StrandTables.{any_found, any_of, exit_there}
 use Rattle.drawing.proofs.SweepTables.{flat_push}
+
+-- two tests that aren't one differ
+pub unlike : (a b : Bool) → not (beq a b) ≡ differ a b
+unlike true true = refl
+unlike true false = refl
+unlike false true = refl
+unlike false false = refl
+
+-- what some of the first pass, some of all pass
+any_taken : (p : Chord → Bool) (cs : List Chord) (n : ℕ) → list_any p (take n cs) ≡ true → list_any p cs ≡ true
+any_taken p cs n h =
+    let all = ap (list_any p) (take-append-drop n cs) ∙ refl in
+    sym all ∙ (list_any-append p (take n cs) (drop n cs) ∙ rw h refl)
 
 -- the first chord of a strand begins where the strand does
 first_begins : (d : Drawing) (a z : Exit) (exits : List Exit) (k : Chord) → (get_or (cut_strand d a exits z) 0 k).from ≡ spot d a
@@ -49,43 +65,87 @@ begins_later d i c e from exits some l es is enters =
     let begins = later_begins d a z (strand_exits d i) (c - 1) e k (omega (arith, l, some)) (subst (λ (xs : List Exit). e ≡ get_or xs (c - 1) e) es is) in
     ap (spot d) enters ∙ (sym begins ∙ ap (λ n. (get_or (cut_strand d a (strand_exits d i) z) n k).from) (sym s))
 
--- the chords from a place on are the next one and those from its entry on
-next_chord : (d : Drawing) (from e next z : Exit) (exits : List Exit) (i : ℕ) (c : Chord) → i < length exits → e ≡ get_or exits i e
-    → c ≡ record { from = spot d from; to = spot d e } → next ≡ entry d e → cut_strand d from (drop i exits) z ≡ c ∷ cut_strand d next (drop (i + 1) exits) z
-next_chord d from e next z exits i c l is chord enters =
-    let rest : drop i exits ≡ e ∷ drop (i + 1) exits = drop_more exits i e l ∙ ap (λ (y : Exit). y ∷ drop (i + 1) exits) (sym is) in
-    ap (λ (es : List Exit). cut_strand d from es z) rest ∙ ap₂ (λ (k : Chord) (y : Exit). k ∷ cut_strand d y (drop (i + 1) exits) z) (sym chord) (sym enters)
+-- and chord c + 1 at the entry of exit c
+pub begins_next : (d : Drawing) (i c : ℕ) (e : Exit) (exits : List Exit) → c < length exits → exits ≡ strand_exits d i → e ≡ get_or exits c e
+    → spot d (entry d e) ≡ (chord_at d i (c + 1)).from
+begins_next d i c e exits l es is =
+    let k : Chord = record { from = 0; to = 0 } in
+    let a = end_of d (second_side d.polygon i) in
+    let z = end_of d (first_side d.polygon i) in
+    let more : suc c ≡ c + 1 = omega arith in
+    let begins = later_begins d a z (strand_exits d i) c e k (omega (arith, l, ap length es)) (subst (λ (xs : List Exit). e ≡ get_or xs c e) es is) in
+    sym begins ∙ ap (λ n. (get_or (cut_strand d a (strand_exits d i) z) n k).from) more
 
--- a chord that passes is found
-pub found_here : (p : Chord → Bool) (d : Drawing) (from e z : Exit) (exits : List Exit) (i : ℕ) (c : Chord) (passed all : Bool) → i < length exits → e ≡ get_or exits i e
-    → c ≡ record { from = spot d from; to = spot d e } → passed ≡ p c → passed ≡ true → list_any p (cut_strand d from (drop i exits) z) ≡ all → true ≡ all
-found_here p d from e z exits i c passed all l is chord test h so_far =
-    let cut = ap (list_any p) (next_chord d from e (entry d e) z exits i c l is chord refl) in
-    let pass : p c ≡ true = sym test ∙ h in
-    let one : list_any p (c ∷ cut_strand d (entry d e) (drop (i + 1) exits) z) ≡ true = rw pass refl in
-    sym one ∙ (sym cut ∙ so_far)
+-- a chord before the last ends at its exit
+ends_there : (d : Drawing) (a z : Exit) (exits : List Exit) (n : ℕ) (e : Exit) (k : Chord) → n < length exits → e ≡ get_or exits n e
+    → (get_or (cut_strand d a exits z) n k).to ≡ spot d e
+ends_there d a z [] n e k l is = absurd (omega (arith, l))
+ends_there d a z (x ∷ exits) zero e k l is = ap (spot d) (sym is)
+ends_there d a z (x ∷ exits) (suc n) e k l is = ends_there d (entry d x) z exits n e k (omega (arith, l)) is
 
--- one that doesn't leaves those after it
-pub found_later : (p : Chord → Bool) (d : Drawing) (from e next z : Exit) (exits : List Exit) (i : ℕ) (c : Chord) (passed all : Bool) → i < length exits → e ≡ get_or exits i e
-    → c ≡ record { from = spot d from; to = spot d e } → next ≡ entry d e → passed ≡ p c → passed ≡ false
-    → list_any p (cut_strand d from (drop i exits) z) ≡ all → list_any p (cut_strand d next (drop (i + 1) exits) z) ≡ all
-found_later p d from e next z exits i c passed all l is chord enters test h so_far =
-    let cut = ap (list_any p) (next_chord d from e next z exits i c l is chord enters) in
-    let fail : p c ≡ false = sym test ∙ h in
-    let one : list_any p (c ∷ cut_strand d next (drop (i + 1) exits) z) ≡ list_any p (cut_strand d next (drop (i + 1) exits) z) = rw fail refl in
-    sym one ∙ (sym cut ∙ so_far)
+-- the last at the strand's end
+ends_last : (d : Drawing) (a z : Exit) (exits : List Exit) (n : ℕ) (k : Chord) → n ≡ length exits → (get_or (cut_strand d a exits z) n k).to ≡ spot d z
+ends_last d a z [] zero k e = refl
+ends_last d a z [] (suc n) k e = absurd (omega (arith, e))
+ends_last d a z (x ∷ exits) zero k e = absurd (omega (arith, e))
+ends_last d a z (x ∷ exits) (suc n) k e = ends_last d (entry d x) z exits n k (omega (arith, e))
 
--- the last chord decides
-pub found_last : (p : Chord → Bool) (d : Drawing) (from z : Exit) (exits : List Exit) (i : ℕ) (c : Chord) (passed all : Bool) → length exits ≤ i
-    → c ≡ record { from = spot d from; to = spot d z } → passed ≡ p c → list_any p (cut_strand d from (drop i exits) z) ≡ all → passed ≡ all
-found_last p d from z exits i c passed all l chord test so_far =
-    let none : drop i exits ≡ [] = drop_all i exits l in
-    let cut : cut_strand d from (drop i exits) z ≡ c ∷ [] = ap (λ (es : List Exit). cut_strand d from es z) none ∙ ap (λ (k : Chord). k ∷ []) (sym chord) in
-    test ∙ (or_no (p c) ∙ (sym (ap (list_any p) cut) ∙ so_far))
-  where
-    or_no : (b : Bool) → b ≡ (b || false)
-    or_no true = refl
-    or_no false = refl
+-- chord c ends at exit c
+pub ends_exit : (d : Drawing) (i c : ℕ) (e : Exit) (exits : List Exit) → c < length exits → exits ≡ strand_exits d i → e ≡ get_or exits c e → spot d e ≡ (chord_at d i c).to
+ends_exit d i c e exits l es is =
+    sym (ends_there d (end_of d (second_side d.polygon i)) (end_of d (first_side d.polygon i)) (strand_exits d i) c e (record { from = 0; to = 0 }) (omega (arith, l, ap length es))
+    (subst (λ (xs : List Exit). e ≡ get_or xs c e) es is))
+
+-- and the last one where the strand does
+pub ends_strand : (d : Drawing) (i c first : ℕ) (exits : List Exit) (to : Exit) → c ≡ length exits → exits ≡ strand_exits d i → first ≡ first_side d.polygon i → to ≡ end_of d first
+    → spot d to ≡ (chord_at d i c).to
+ends_strand d i c first exits to n es f is =
+    rw (is, f) (sym (ends_last d (end_of d (second_side d.polygon i)) (end_of d (first_side d.polygon i)) (strand_exits d i) c (record { from = 0; to = 0 }) (n ∙ ap length es)))
+
+-- a strand has one chord more than exits
+pub chords_long : (d : Drawing) (i : ℕ) → length (strand_chords d i) ≡ suc (length (strand_exits d i))
+chords_long d i = length_cut d (end_of d (second_side d.polygon i)) (end_of d (first_side d.polygon i)) (strand_exits d i)
+
+module _ (d : Drawing) (i n : ℕ) (s t : ℕ) (there : n ≤ length (strand_exits d i)) (inside outside : Bool)
+    (from : inside ≡ between s t (chord_at d i n).from) (to : outside ≡ between s t (chord_at d i n).to) (none : list_any (parts_from s t) (take n (strand_chords d i)) ≡ false) where
+  -- whether the chord begins elsewhere
+  abbrev elsewhere : Bool
+  elsewhere = not (eqb (chord_at d i n).from s)
+
+  -- the test of a chord by its two ends
+  parts_told : parts_from s t (chord_at d i n) ≡ (not (beq inside outside) && elsewhere)
+  parts_told = ap (λ b. b && elsewhere) (separates_told (chord_at d i n) s t ∙ (ap₂ differ (sym from) (sym to) ∙ sym (unlike inside outside)))
+
+  -- one chord more is tried
+  one_more : list_any (parts_from s t) (take (n + 1) (strand_chords d i)) ≡ (not (beq inside outside) && elsewhere)
+  one_more =
+      list_any_more (parts_from s t) (strand_chords d i) n (record { from = 0; to = 0 }) (omega (arith, there, chords_long d i))
+      ∙ ap₂ (λ p q. p || q) none parts_told
+
+  -- it separates the spans and begins elsewhere,
+  pub found_here : (b : Bool) → not (beq inside outside) ≡ true → b ≡ elsewhere → b ≡ true → true ≡ list_any (parts_from s t) (strand_chords d i)
+  found_here b h e k =
+      let both : (not (beq inside outside) && elsewhere) ≡ true = rw (h, ← e) k in
+      sym (any_taken (parts_from s t) (strand_chords d i) (n + 1) (one_more ∙ both))
+
+  -- it separates them, and doesn't begin elsewhere,
+  pub found_own : (b : Bool) → not (beq inside outside) ≡ true → b ≡ elsewhere → b ≡ false → list_any (parts_from s t) (take (n + 1) (strand_chords d i)) ≡ false
+  found_own b h e k = let both : (not (beq inside outside) && elsewhere) ≡ false = rw (h, ← e) k in one_more ∙ both
+
+  -- or it doesn't separate them
+  pub found_none : not (beq inside outside) ≡ false → list_any (parts_from s t) (take (n + 1) (strand_chords d i)) ≡ false
+  found_none h = let both : (not (beq inside outside) && elsewhere) ≡ false = rw h refl in one_more ∙ both
+
+  module _ (last : n ≡ length (strand_exits d i)) where
+    -- the last one decides
+    all_tried : (not (beq inside outside) && elsewhere) ≡ list_any (parts_from s t) (strand_chords d i)
+    all_tried = sym one_more ∙ ap (list_any (parts_from s t)) (take_all (n + 1) (strand_chords d i) (omega (arith, last, chords_long d i)))
+
+    pub last_here : (b : Bool) → not (beq inside outside) ≡ true → b ≡ elsewhere → b ≡ list_any (parts_from s t) (strand_chords d i)
+    last_here b h e = let both : (not (beq inside outside) && elsewhere) ≡ elsewhere = rw h refl in e ∙ (sym both ∙ all_tried)
+
+    pub last_none : not (beq inside outside) ≡ false → not (beq inside outside) ≡ list_any (parts_from s t) (strand_chords d i)
+    last_none h = let both : (not (beq inside outside) && elsewhere) ≡ false = rw h refl in h ∙ (sym both ∙ all_tried)
 
 -- the chords of one strand more, of which none passes
 pub strands_fail : (p : Chord → Bool) (d : Drawing) (n i : ℕ) (passed : Bool) → i ≡ n → passed ≡ list_any p (strand_chords d i) → passed ≡ false
@@ -103,19 +163,3 @@ pub strand_passes : (p : Chord → Bool) (d : Drawing) (n i : ℕ) (passed : Boo
 strand_passes p d n i passed l test h =
     let (c, m, q) = any_found p (strand_chords d i) (sym test ∙ h) in
     any_of p c (flat_map (strand_chords d) (below n)) (mem_flat (strand_chords d) (below n) i c (below_mem n i l) m) q
-
--- a chord borders the piece before its start,
-pub borders_before : (l d : Drawing) → l ≡ d → (i n : ℕ) (side place x s : ℕ) (from : Exit) (before : Bool) → x ≡ spot l from → spot l from ≡ (chord_at l i n).from
-    → s ≡ spot l (exit side place) → before ≡ same_piece (chords l) x s → before ≡ true → before ≡ borders d (chord_at d i n) (spot d (exit side place))
-borders_before l d seen i n side place x s from before is starts at test h =
-    let same : borders l (chord_at l i n) (spot l (exit side place)) ≡ true = rw (← starts, ← is, ← at, ← test, h) refl in
-    h ∙ (sym same ∙ ap (λ (y : Drawing). borders y (chord_at y i n) (spot y (exit side place))) seen)
-
--- or the one after it
-pub borders_after : (l d : Drawing) → l ≡ d → (i n : ℕ) (side place x s : ℕ) (from : Exit) (before after : Bool) → x ≡ spot l from → spot l from ≡ (chord_at l i n).from
-    → s ≡ spot l (exit side place) → before ≡ same_piece (chords l) x s → before ≡ false → after ≡ same_piece (chords l) (x + 1) s
-    → after ≡ borders d (chord_at d i n) (spot d (exit side place))
-borders_after l d seen i n side place x s from before after is starts at test h next =
-    let more : suc x ≡ x + 1 = omega arith in
-    let same : borders l (chord_at l i n) (spot l (exit side place)) ≡ after = rw (← starts, ← is, ← at, ← test, h, more, ← next) refl in
-    sym same ∙ ap (λ (y : Drawing). borders y (chord_at y i n) (spot y (exit side place))) seen

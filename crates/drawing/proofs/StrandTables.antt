@@ -114,7 +114,7 @@ module _ (d : Drawing) (ok : IsPlaced d) where
   ]
 
   -- some strand meets each point
-  some_strand : (k j : ℕ) → k < sides d.polygon → j < points_on d k → (i : ℕ) × (i < arc_count d.polygon) × (meets d (strand_exits d i) (offset d k + j) ≡ true)
+  pub some_strand : (k j : ℕ) → k < sides d.polygon → j < points_on d k → (i : ℕ) × (i < arc_count d.polygon) × (meets d (strand_exits d i) (offset d k + j) ≡ true)
   some_strand k j lk lj =
       let x = offset d k + j in
       let one = one_there k j lk lj in

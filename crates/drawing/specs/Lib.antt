@@ -19,3 +19,4 @@ pub mod ThinTables
 pub mod Tight
 pub mod Trees
 pub mod Turns
+pub mod Window

@@ -1,5 +1,5 @@
 -- Spans, the pieces that chords cut the polygon into, and their distances from the boundary.
-use Rattle.std.specs.Prelude.{ℕ, ◌+◌, ◌-◌, Bool, nat_eq, not, min, List, [], ◌∷◌, filter, map, length, slice_index, count_by}
+use Rattle.std.specs.Prelude.{ℕ, ◌+◌, ◌-◌, Bool, nat_eq, nat_lt, ◌&&◌, not, min, List, [], ◌∷◌, filter, map, length, slice_index, count_by}
 use Rattle.std.specs.List.{list_any, position_or_len}
 use Rattle.obd_base.specs.Lists.{below}
 use Rattle.page_surface.specs.Drawing.{Chord, Drawing, beyond, chords, differ, end_of, offset, spot}
@@ -28,6 +28,14 @@ separates c s t = differ (beyond c s) (beyond c t)
 -- how many chords separate two spans
 abbrev pub separated_by : List Chord → ℕ → ℕ → ℕ
 separated_by cs s t = count_by (λ c. separates c s t) cs
+
+-- a number is met on the way from the lesser of two spans to the greater
+abbrev pub between : ℕ → ℕ → ℕ → Bool
+between s t x = differ (nat_lt x s) (nat_lt x t)
+
+-- a chord that begins elsewhere separates a span from the span before which another chord begins
+abbrev pub parts_from : ℕ → ℕ → Chord → Bool
+parts_from start t e = separates e start t && not (nat_eq e.from start)
 
 -- no chord separates the two spans
 abbrev pub same_piece : List Chord → ℕ → ℕ → Bool

@@ -30,6 +30,13 @@ impl Model for Chord {
 }
 
 impl Chord {
+    // The number of its first end, and of the span just before that.
+    pub(crate) fn start(self) -> u32
+        ensures { result ≡ self.from }
+    {
+        self.from
+    }
+
     // Whether exactly one of two spans is met on the way between the chord's ends.
     pub(crate) fn separates(self, one: u32, other: u32) -> bool
         ensures { result ≡ separates self one other }

@@ -12,11 +12,12 @@ ghost use Rattle.drawing.specs.Turns.{Loosened};
 ghost use Rattle.page_surface.specs.Words.{reduced};
 
 use crate::Finger;
+use crate::finger::segment_of;
 use crate::layout::Layout;
 use crate::nested::take_nested;
-use crate::pieces::{chord_start, same_piece};
-use crate::push::order;
-use crate::strands::{set_strands, strand_table};
+use crate::pieces::borders;
+use crate::push::{beyond, order};
+use crate::strands::{put_strand, set_strands, strand_table};
 use crate::turn_links::Links;
 use crate::turns::take_turns;
 use obd_base::{Exit, NoMemory, SideNo, StrandNo};
@@ -190,7 +191,8 @@ impl Drawing {
     /// is the effect of the finger move (Sarkar and Wang 2010). Which of the two points it leaves by is told by the side of
     /// the chord on which the segment lies.
     ///
-    /// Takes no memory, but one of the room that `reserve` makes. Linear in all exits and the sides.
+    /// Takes no memory, but one of the room that `reserve` makes. Linear in all exits and the sides: one pass over the exits,
+    /// and the numbers behind the segment and behind the one glued to it move on as blocks.
     pub fn push(&mut self, strand: StrandNo, chord: u32, side: SideNo, segment: u32)
         requires legal { IsLegal self.old.drawing (finger strand chord side segment) }
         requires room { 1 ≤ self.old.room }
@@ -204,12 +206,11 @@ impl Drawing {
             segment,
         };
         let out = order(&self.layout, &finger);
+        let near = self.layout.spot(segment_of(&finger));
+        let far = self.layout.spot(beyond(&self.layout, &finger));
         self.layout.push(&finger, out);
         self.points += 2;
-        self.strands_at
-            .resize(self.layout.span_count() as usize, strand)
-            .unwrap();
-        set_strands(&self.layout, &mut self.strands_at);
+        put_strand(strand, near, far, &mut self.strands_at);
     }
 
     /// The polygon in which the strands lie. Constant time, as are the calls below but `pieces_share`, `word` and
@@ -267,7 +268,8 @@ impl Drawing {
 
     /// Whether a chord borders the piece of a segment: whether that is the piece on the one side of the chord or on
     /// the other. Segment `j` of a side lies just before its point `j`, and the last one between the last point and
-    /// the end of the side; two segments lie in one piece where no chord separates them. Linear in the exits.
+    /// the end of the side; two segments lie in one piece where no chord separates them. One pass over the
+    /// exits, which ends where another chord separates the segment from the start of this one.
     pub fn pieces_share(&self, strand: StrandNo, chord: u32, side: SideNo, segment: u32) -> bool
         requires strand { strand < arc_count self.now.drawing.polygon }
         requires chord { chord ≤ length (strand_exits self.now.drawing strand) }
@@ -275,12 +277,13 @@ impl Drawing {
         requires segment { segment ≤ points_on self.now.drawing side }
         ensures { result ≡ borders self.now.drawing (chord_at self.now.drawing strand chord) (spot self.now.drawing (exit side segment)) }
     {
-        let start = self.layout.spot(chord_start(&self.layout, strand, chord));
-        let segment = self.layout.spot(Exit {
+        let finger = Finger {
+            strand,
+            chord,
             side,
-            place: segment,
-        });
-        same_piece(&self.layout, start, segment) || same_piece(&self.layout, start + 1, segment)
+            segment,
+        };
+        borders(&self.layout, &finger)
     }
 
     /// The word of a strand: the sides by which it leaves, in order. Linear in the exits of the strand.

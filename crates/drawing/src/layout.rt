@@ -12,7 +12,8 @@ ghost use Rattle.drawing.specs.Thinned.{IsAlike, thinned};
 
 use crate::Finger;
 use crate::counts::{joined, offsets, side_counts};
-use crate::push::{beyond, push_strands, raise_sides, segment_of};
+use crate::finger::segment_of;
+use crate::push::{beyond, push_strands, raise_sides};
 use crate::thinning::{move_sides, number_points, thin_strands};
 use obd_base::{Exit, NoMemory, SideNo, StrandNo};
 use page_surface::Polygon;

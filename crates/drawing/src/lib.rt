@@ -25,6 +25,7 @@ mod strands;
 mod thinning;
 mod turn_links;
 mod turns;
+mod window;
 mod words;
 
 pub use drawing::Drawing;

@@ -3,25 +3,16 @@ ghost use Rattle.std.specs.Prelude.{◌≡◌, ℕ, suc, ◌+◌, ◌-◌, ◌<�
 ghost use Rattle.obd_base.specs.Lists.{Mem};
 ghost use Rattle.obd_base.specs.declared.points.Exit.{Exit as Shown};
 ghost use Rattle.page_surface.specs.Drawing.{IsEmbedded, chords};
-ghost use Rattle.drawing.specs.Fingers.{InRange, chord_at, entered, glued_to};
+ghost use Rattle.drawing.specs.Fingers.{InRange, IsLegal, chord_at, entered, glued_to};
 ghost use Rattle.drawing.specs.Pieces.{same_piece};
-ghost use Rattle.drawing.specs.PushTables.{pushed_rows, raised, raised_side, with_two};
+ghost use Rattle.drawing.specs.PushTables.{pushed_rows, raised, raised_by, raised_side, with_two};
 ghost use Rattle.drawing.specs.Room.{HaveRoom, rows};
 
 use crate::Finger;
+use crate::finger::segment_of;
 use crate::layout::Layout;
-use crate::pieces::{chord_start, same_piece};
+use crate::pieces::chord_of;
 use obd_base::Exit;
-
-// The segment of a finger, by its side and its place there.
-pub(crate) fn segment_of(finger: &Finger) -> Exit
-    ensures { result ≡ record { side = finger.now.side; place = finger.now.segment } }
-{
-    Exit {
-        side: finger.side,
-        place: finger.segment,
-    }
-}
 
 // The segment that is glued to it.
 pub(crate) fn beyond(layout: &Layout, finger: &Finger) -> Exit
@@ -34,18 +25,28 @@ pub(crate) fn beyond(layout: &Layout, finger: &Finger) -> Exit
     }
 }
 
-// Where a point stands when two new points are put into a segment, and two into another: two places further on where it
-// comes after the one or the other.
-fn raised(near: &Exit, far: &Exit, exit: &Exit) -> Exit
-    requires { exit.now.place < 2 ^ 30 }
-    ensures { result ≡ raised near.now far.now exit.now }
+// From which place on the points of each side move on when two new points are put into a segment, and two into another: past
+// all places on the other sides.
+fn limits(near: &Exit, far: &Exit) -> [u32; 16]
+    requires near { near.now.side < 16 }
+    requires far { far.now.side < 16 }
+    ensures size { length result ≡ 16 }
+    ensures told { (e : Shown) → e.side < 16 → e.place < 2 ^ 30 → raised_by result e ≡ raised near.now far.now e }
 {
-    let after = if exit.side == near.side {
-        near.place <= exit.place
-    } else {
-        exit.side == far.side && far.place <= exit.place
-    };
-    let step = if after { 2 } else { 0 };
+    let mut limits = [1 << 30; 16];
+    limits[far.side.number() as usize] = far.place;
+    limits[near.side.number() as usize] = near.place;
+    limits
+}
+
+// Where a point stands then: two places further on, or where it was.
+fn raised(limits: &[u32; 16], exit: &Exit) -> Exit
+    requires side { exit.now.side < 16 }
+    requires place { exit.now.place < 2 ^ 30 }
+    ensures { result ≡ raised_by limits.now exit.now }
+{
+    let stays = exit.place < limits[exit.side.number() as usize];
+    let step = if stays { 0 } else { 2 };
     Exit {
         side: exit.side,
         place: exit.place + step,
@@ -53,20 +54,25 @@ fn raised(near: &Exit, far: &Exit, exit: &Exit) -> Exit
 }
 
 // Moves the exits of a strand to where they stand then.
-fn raise_exits(near: &Exit, far: &Exit, exits: &mut Vec<Exit>)
-    requires { (e : Shown) → Mem e exits.old.items → e.place < 2 ^ 30 }
-    ensures exits { exits.new.items ≡ map (raised near.now far.now) exits.old.items }
-    ensures room { vec_capacity exits.new - vec_len exits.new ≡ vec_capacity exits.old - vec_len exits.old }
+fn raise_exits(near: &Exit, far: &Exit, exits: &mut [Exit])
+    requires near { near.now.side < 16 }
+    requires far { far.now.side < 16 }
+    requires sides { (e : Shown) → Mem e exits.old → e.side < 16 }
+    requires places { (e : Shown) → Mem e exits.old → e.place < 2 ^ 30 }
+    ensures { exits.new ≡ map (raised near.now far.now) exits.old }
 {
-    for at in 0..exits.len() {
-        let exit = raised(near, far, &exits[at]);
-        exits[at] = exit;
+    let limits = limits(near, far);
+    for exit in exits.iter_mut() {
+        *exit = raised(&limits, exit);
     }
 }
 
 // The same for all strands. Linear in the exits.
 fn raise_strands(near: &Exit, far: &Exit, strands: &mut [Vec<Exit>])
-    requires { (strand : List Shown) → Mem strand (rows strands.old) → (e : Shown) → Mem e strand → e.place < 2 ^ 30 }
+    requires near { near.now.side < 16 }
+    requires far { far.now.side < 16 }
+    requires sides { (strand : List Shown) → Mem strand (rows strands.old) → (e : Shown) → Mem e strand → e.side < 16 }
+    requires places { (strand : List Shown) → Mem strand (rows strands.old) → (e : Shown) → Mem e strand → e.place < 2 ^ 30 }
     ensures strands { rows strands.new ≡ map (map (raised near.now far.now)) (rows strands.old) }
     ensures room { (room : ℕ) → HaveRoom room strands.old → HaveRoom room strands.new }
 {
@@ -96,7 +102,10 @@ pub(crate) fn push_strands(
 )
     requires strand { finger.now.strand < length strands.old }
     requires chord { finger.now.chord ≤ length (slice_index_or (rows strands.old) finger.now.strand []) }
+    requires sides { (strand : List Shown) → Mem strand (rows strands.old) → (e : Shown) → Mem e strand → e.side < 16 }
     requires places { (strand : List Shown) → Mem strand (rows strands.old) → (e : Shown) → Mem e strand → e.place < 2 ^ 30 }
+    requires near_side { near.now.side < 16 }
+    requires far_side { far.now.side < 16 }
     requires near { near.now.place < 2 ^ 30 }
     requires far { far.now.place < 2 ^ 30 }
     requires out { out ≤ 1 }
@@ -150,17 +159,18 @@ pub(crate) fn raise_sides(near: &Exit, far: &Exit, offsets: &mut [u32])
 }
 
 // Which of the two new points the strand leaves by, 0 for the earlier one: the later one where the segment lies in the
-// piece just before the chord's first end. Linear in the exits.
+// piece just before the chord's first end. The chord borders the segment's piece, so that is where it doesn't separate the
+// two spans itself. Constant time.
 pub(crate) fn order(layout: &Layout, finger: &Finger) -> u32
     requires embedded { IsEmbedded layout.now.drawing }
-    requires finger { InRange layout.now.drawing finger.now }
+    requires legal { IsLegal layout.now.drawing finger.now }
     ensures { result ≡ cond (same_piece (chords layout.now.drawing) (chord_at layout.now.drawing finger.now.strand finger.now.chord).from (entered layout.now.drawing finger.now)) 1 0 }
 {
-    let start = layout.spot(chord_start(layout, finger.strand, finger.chord));
+    let chord = chord_of(layout, finger.strand, finger.chord);
     let segment = layout.spot(segment_of(finger));
-    if same_piece(layout, start, segment) {
-        1
-    } else {
+    if chord.separates(chord.start(), segment) {
         0
+    } else {
+        1
     }
 }

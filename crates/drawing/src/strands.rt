@@ -1,8 +1,10 @@
 // The strand through each point.
-ghost use Rattle.std.specs.Prelude.{◌≡◌, ℕ, ◌<◌, cond, length, slice_index, IfOk};
+ghost use Rattle.std.specs.Prelude.{◌≡◌, ℕ, ◌+◌, ◌++◌, ◌-◌, ◌<◌, ◌≤◌, [], ◌∷◌, List, cond, length, slice_index, vec_capacity, vec_len, IfOk};
+ghost use Rattle.std.specs.List.{CopiedTo, SameBelow, SameFrom};
 ghost use Rattle.page_surface.specs.Drawing.{IsPlaced, strand_exits};
 ghost use Rattle.page_surface.specs.Polygon.{arc_count};
 ghost use Rattle.drawing.specs.Pieces.{span_count};
+ghost use Rattle.drawing.specs.PushTables.{IsPutIn};
 ghost use Rattle.drawing.specs.Strands.{IsStrandTable, meets};
 
 use crate::layout::Layout;
@@ -32,6 +34,49 @@ pub(crate) fn set_strands(layout: &Layout, table: &mut [StrandNo])
     for strand in 0..layout.polygon().sides() / 2 {
         set_strand(layout, StrandNo::new(strand), table);
     }
+}
+
+// Moves the last items of a part of a table to its beginning, and the others of the part behind them.
+fn turn(table: &mut [StrandNo], start: usize, end: usize, count: usize)
+    requires part { start + count ≤ end }
+    requires inside { end ≤ length table.old }
+    ensures size { length table.new ≡ length table.old }
+    ensures before { SameBelow table.old table.new start }
+    ensures first { CopiedTo table.old table.new (end - count) start count }
+    ensures later { CopiedTo table.old table.new start (start + count) (end - count - start) }
+    ensures behind { SameFrom table.old table.new end }
+{
+    table[start..end].rotate_right(count);
+}
+
+// Moves the last four items of a table to before two of its numbers, two and two, and all that comes behind these on.
+// Linear in the items behind the lesser of the numbers, which move as blocks.
+fn part_at(table: &mut [StrandNo], one: usize, other: usize)
+    requires one { one + 4 ≤ length table.old }
+    requires other { other + 4 ≤ length table.old }
+    ensures { (item : ℕ) (items : List ℕ) → table.old ≡ items ++ (item ∷ item ∷ item ∷ item ∷ []) → IsPutIn item one other items table.new }
+{
+    let low = one.min(other);
+    let high = one.max(other);
+    let end = table.len();
+    turn(table, high, end, 4);
+    turn(table, low, high + 2, 2);
+}
+
+// Puts the four points of a finger into the table: two before its segment's number, and two before that of the segment glued
+// to it. Takes no memory. Linear in the numbers behind, which move as blocks.
+pub(crate) fn put_strand(strand: StrandNo, one: u32, other: u32, table: &mut Vec<StrandNo>)
+    requires one { one ≤ length table.old.items }
+    requires other { other ≤ length table.old.items }
+    requires room { 4 ≤ vec_capacity table.old - vec_len table.old }
+    ensures items { IsPutIn strand one other table.old.items table.new.items }
+    ensures room { vec_capacity table.old - vec_len table.old ≤ vec_capacity table.new - vec_len table.new + 4 }
+{
+    table.push(strand).unwrap();
+    table.push(strand).unwrap();
+    table.push(strand).unwrap();
+    table.push(strand).unwrap();
+    part_at(table, one as usize, other as usize);
 }
 
 // A table of them.

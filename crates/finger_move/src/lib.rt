@@ -17,7 +17,7 @@ use drawing::Drawing;
 pub use drawing::Finger;
 
 /// Whether a finger is legal: whether its strand, chord, side and segment are there, and the chord borders the piece
-/// that holds the segment. Linear in the exits; takes no memory.
+/// that holds the segment. One pass over the exits; takes no memory.
 pub fn is_legal(drawing: &Drawing, finger: &Finger) -> bool
     ensures { IsTrue result ↔ IsLegal drawing.now.drawing finger.now }
 {

@@ -1,23 +1,14 @@
-use Rattle.std.proofs.Common.{◌≡◌, ◌∙◌, ap, ap₂, true, false, refl, sym}
-use Rattle.page_surface.specs.Drawing.{chords, spot}
-use Rattle.drawing.specs.Fingers.{chord_at, entered}
-use Rattle.drawing.specs.Pieces.{same_piece}
+use Rattle.std.proofs.Common.{◌∙◌, ap, true, false}
+use Rattle.page_surface.specs.Drawing.{spot}
+use Rattle.drawing.proofs.Bordering.{order_from}
 use Rattle.drawing.proofs.push.order.Goals as goal
 
-pub returns-then-same_piece : goal.returns-then-same_piece
-returns-then-same_piece c =
-    let d = c.args.layout.now.drawing in
-    let f = c.args.finger.now in
-    let start : c.spot-start.result ≡ (chord_at d f.strand f.chord).from = c.spot-start.ensures.value ∙ c.chord_start.ensures.value in
-    let segment : c.spot-segment.result ≡ entered d f = c.spot-segment.ensures.value ∙ ap (spot d) c.segment_of.ensures in
-    let e : same_piece (chords d) (chord_at d f.strand f.chord).from (entered d f) ≡ true = ap₂ (same_piece (chords d)) (sym start) (sym segment) ∙ (sym c.same_piece.ensures ∙ c.if-same_piece.true) in
-    rw e refl
+pub returns-then-separates : goal.returns-then-separates
+returns-then-separates c =
+    order_from c.args.layout.now.drawing c.requires.embedded c.args.finger.now c.requires.legal _ _ _ _ c.chord_of-chord.ensures c.start.ensures
+    (c.spot-segment.ensures.value ∙ ap (spot c.args.layout.now.drawing) c.segment_of.ensures) c.separates.ensures true c.if-separates.true
 
-pub returns-else-same_piece : goal.returns-else-same_piece
-returns-else-same_piece c =
-    let d = c.args.layout.now.drawing in
-    let f = c.args.finger.now in
-    let start : c.spot-start.result ≡ (chord_at d f.strand f.chord).from = c.spot-start.ensures.value ∙ c.chord_start.ensures.value in
-    let segment : c.spot-segment.result ≡ entered d f = c.spot-segment.ensures.value ∙ ap (spot d) c.segment_of.ensures in
-    let e : same_piece (chords d) (chord_at d f.strand f.chord).from (entered d f) ≡ false = ap₂ (same_piece (chords d)) (sym start) (sym segment) ∙ (sym c.same_piece.ensures ∙ c.if-same_piece.false) in
-    rw e refl
+pub returns-else-separates : goal.returns-else-separates
+returns-else-separates c =
+    order_from c.args.layout.now.drawing c.requires.embedded c.args.finger.now c.requires.legal _ _ _ _ c.chord_of-chord.ensures c.start.ensures
+    (c.spot-segment.ensures.value ∙ ap (spot c.args.layout.now.drawing) c.segment_of.ensures) c.separates.ensures false c.if-separates.false

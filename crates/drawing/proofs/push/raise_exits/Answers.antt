@@ -1,20 +1,27 @@
-use Rattle.std.proofs.Common.{◌<◌, ◌∙◌, ap, arith, length}
+use Rattle.std.proofs.Common.{◌<◌, ◌^◌, ◌∙◌, subst}
+use Rattle.obd_base.specs.declared.points.Exit.{Exit}
 use Rattle.drawing.specs.PushTables.{raised}
 use Rattle.drawing.proofs.ThinTables.{row_mem, row_unread, row_written}
 use Rattle.drawing.proofs.push.raise_exits.Goals as goal
 
-pub raised-exit-requires : goal.raised-exit-requires
-raised-exit-requires c =
-    let f = raised c.args.near.now c.args.far.now in
-    let l : c.loop-at.at < length c.args.exits.now.items = omega (arith, c.loop-at-test.true, c.len-at-end.ensures, c.args.exits.now.ok.0) in
-    let same = row_unread f c.args.exits.now.items c.loop-at.exits.items c.loop-at.at c.index.result.now c.loop-at.invariant.moved l in
-    c.requires _ (row_mem c.args.exits.now.items c.loop-at.exits.items c.loop-at.at c.index.result.now l same c.index.ensures)
+pub raised-requires-clause-side : goal.raised-requires-clause-side
+raised-requires-clause-side c =
+    let same = row_unread (raised c.args.near.now c.args.far.now) c.args.exits.now c.loop-exit.exits c.loop-exit.exit-index c.exit-item.result c.loop-exit.invariant c.loop-exit-test.true in
+    let m = row_mem c.args.exits.now c.loop-exit.exits c.loop-exit.exit-index c.exit-item.result c.loop-exit-test.true same c.exit-item.is in
+    subst (λ (e : Exit). e.side < 16) c.exit-item.is (c.requires.sides c.exit-item.result m)
 
-pub loop-at-preserved : goal.loop-at-preserved
-loop-at-preserved c =
+pub raised-requires-clause-place : goal.raised-requires-clause-place
+raised-requires-clause-place c =
+    let same = row_unread (raised c.args.near.now c.args.far.now) c.args.exits.now c.loop-exit.exits c.loop-exit.exit-index c.exit-item.result c.loop-exit.invariant c.loop-exit-test.true in
+    let m = row_mem c.args.exits.now c.loop-exit.exits c.loop-exit.exit-index c.exit-item.result c.loop-exit-test.true same c.exit-item.is in
+    subst (λ (e : Exit). e.place < 2 ^ 30) c.exit-item.is (c.requires.places c.exit-item.result m)
+
+pub loop-exit-preserved : goal.loop-exit-preserved
+loop-exit-preserved c =
     let f = raised c.args.near.now c.args.far.now in
-    let l : c.loop-at.at < length c.args.exits.now.items = omega (arith, c.loop-at-test.true, c.len-at-end.ensures, c.args.exits.now.ok.0) in
-    record {
-      moved = row_written f c.args.exits.now.items c.loop-at.exits.items c.loop-at.at c.index.result.now _ c.loop-at.invariant.moved l (c.raised-exit.ensures ∙ ap f c.index.ensures);
-      room = c.loop-at.invariant.room;
-    }
+    let same = row_unread f c.args.exits.now c.loop-exit.exits c.loop-exit.exit-index c.exit-item.result c.loop-exit.invariant c.loop-exit-test.true in
+    let m = row_mem c.args.exits.now c.loop-exit.exits c.loop-exit.exit-index c.exit-item.result c.loop-exit-test.true same c.exit-item.is in
+    let side = subst (λ (e : Exit). e.side < 16) c.exit-item.is (c.requires.sides c.exit-item.result m) in
+    let place = subst (λ (e : Exit). e.place < 2 ^ 30) c.exit-item.is (c.requires.places c.exit-item.result m) in
+    row_written f c.args.exits.now c.loop-exit.exits c.loop-exit.exit-index c.exit-item.result _ c.loop-exit.invariant c.loop-exit-test.true
+    (c.raised.ensures ∙ c.limits-limits.ensures.told _ side place)

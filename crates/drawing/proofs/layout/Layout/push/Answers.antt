@@ -1,6 +1,6 @@
 use Rattle.std.proofs.Common.{ap, arith, sym, subst, suc, ◌-◌}
 use Rattle.drawing.specs.Room.{HaveRoom, Roomy}
-use Rattle.drawing.proofs.LaidPush.{chord_there, far_there, laid_back, near_there, places_there, room_back, starts_there, strand_there, view_pushed}
+use Rattle.drawing.proofs.LaidPush.{chord_there, far_there, laid_back, near_there, places_there, room_back, sides_there, starts_there, strand_there, view_pushed}
 use Rattle.drawing.proofs.RoomTables.{less_room}
 use Rattle.drawing.proofs.layout.Layout.push.Goals as goal
 
@@ -12,6 +12,9 @@ push_strands-requires-clause-chord c = chord_there c.self.inside.polygon c.self.
 
 pub push_strands-requires-clause-places : goal.push_strands-requires-clause-places
 push_strands-requires-clause-places c = places_there c.self.inside.polygon c.self.inside.strands.items c.args.self.now.drawing (ap (λ (r : Roomy). r.drawing) c.self.view_is) c.self.inside.offsets.items c.self.invariant.0 c.requires.embedded c.args.finger.now c.requires.finger c.args.out c.requires.out _ c.deref_mut.ensures.value
+
+pub push_strands-requires-clause-sides : goal.push_strands-requires-clause-sides
+push_strands-requires-clause-sides c = sides_there c.self.inside.polygon c.self.inside.strands.items c.args.self.now.drawing (ap (λ (r : Roomy). r.drawing) c.self.view_is) c.self.inside.offsets.items c.self.invariant.0 c.requires.embedded c.args.finger.now c.requires.finger c.args.out c.requires.out _ c.deref_mut.ensures.value
 
 pub push_strands-requires-clause-near : goal.push_strands-requires-clause-near
 push_strands-requires-clause-near c = near_there c.self.inside.polygon c.self.inside.strands.items c.args.self.now.drawing (ap (λ (r : Roomy). r.drawing) c.self.view_is) c.self.inside.offsets.items c.self.invariant.0 c.requires.embedded c.args.finger.now c.requires.finger c.args.out c.requires.out _ c.segment_of-near.ensures
