@@ -1,13 +1,15 @@
 -- The bursts that were applied so far, and what they leave of the strategy's list and of the bursts that fit a limit.
-use Rattle.std.proofs.Common.{◌≡◌, ℕ, zero, suc, ◌+◌, ◌-◌, ◌*◌, ◌<◌, ◌≤◌, ◌⊎◌, Bool, true, false, cond, ltb, List, [], ◌∷◌, ◌++◌, get_or, length, take, append_assoc, refl, sym, ◌∙◌, ap, subst, arith, inl, inr}
+use Rattle.std.proofs.Common.{◌≡◌, ℕ, zero, suc, ◌+◌, ◌-◌, ◌<◌, ◌≤◌, Bool, true, false, cond, ltb, List, [], ◌∷◌, ◌++◌, get_or, length, take, append_assoc, refl, sym, ◌∙◌, ap, ap₂, subst, arith, inl, inr}
 use Rattle.std.proofs.lemmas.Bool.{cases_Bool, cases_lt, le-ltb, lt-ltb, true≢false}
 use Rattle.std.proofs.lemmas.List.{append-nil, length-append}
-use Rattle.page_surface.specs.Drawing.{Drawing, IsEmbedded, all_exits}
+use Rattle.page_surface.specs.Drawing.{Drawing, IsEmbedded}
 use Rattle.drawing.specs.declared.finger.Finger.{Finger}
 use Rattle.drawing.specs.Fingers.{AllLegal, IsLegal, pushed, replayed}
+use Rattle.region_table.specs.Changed.{KeepsAllNames}
 use Rattle.region_table.specs.Nice.{is_nice, weight}
+use Rattle.region_table.specs.Table.{Table}
 use Rattle.finger_move.proofs.Replayed.{replayed_append, replayed_exits}
-use Rattle.nice_plan.specs.Applied.{IsApplied, IsBurstApplied}
+use Rattle.nice_plan.specs.Applied.{AreBurstsApplied, IsApplied, IsBurstApplied}
 use Rattle.nice_plan.specs.Burst.{burst}
 use Rattle.nice_plan.specs.Strategy.{bursts_of, fitting, strategy, within_limit}
 use Rattle.nice_plan.specs.declared.refusal.PlanRefusal.{PlanRefusal}
@@ -15,6 +17,7 @@ use Rattle.nice_plan.specs.declared.refusal.PlanRefusal.TheVariants.{MoveBudget,
 use Rattle.nice_plan.proofs.BurstLegal.{burst_embedded, burst_legal}
 use Rattle.nice_plan.proofs.BurstLowers.{burst_lowers}
 use Rattle.nice_plan.proofs.Fitting.{weighs}
+use Rattle.nice_plan.proofs.KeptNames.{names_through}
 use Rattle.nice_plan.proofs.StrategyEnds.{enough, one_strategy}
 
 -- a nice drawing has no burst
@@ -124,14 +127,12 @@ none_applied first limit ok = record {
 
 module _ (first : Drawing) (limit : ℕ) (fingers : List Finger) (now : Drawing) (applied : IsApplied first limit fingers now) where
   -- after one burst more so many bursts were applied
-  pub bursts_more : is_nice now ≡ false → (n : ℕ) × (replayed now (burst now) ≡ replayed first (bursts_of n first))
+  pub bursts_more : is_nice now ≡ false → (n : ℕ) × (fingers ++ burst now ≡ bursts_of n first)
   bursts_more bad =
       let (n, so) = applied.bursts in
-      let there = replayed first (bursts_of n first) in (
-        suc n,
-        ap (λ (e : Drawing). replayed e (burst e)) so
-            ∙ (sym (replayed_append first (bursts_of n first) (burst there)) ∙ ap (replayed first) (sym (one_more n first (ap is_nice (sym so) ∙ bad)))),
-      )
+      let here : now ≡ replayed first (bursts_of n first) = applied.here ∙ ap (replayed first) so in
+      let more : bursts_of (suc n) first ≡ bursts_of n first ++ burst (replayed first (bursts_of n first)) = one_more n first (ap is_nice (sym here) ∙ bad) in
+      (suc n, ap₂ (λ (gs : List Finger) (e : Drawing). gs ++ burst e) so here ∙ sym more)
 
   -- one burst more that fits
   pub burst_applied : is_nice now ≡ false → length fingers + length (burst now) ≤ limit → IsApplied first limit (fingers ++ burst now) (replayed now (burst now))
@@ -180,6 +181,16 @@ module _ (first : Drawing) (limit : ℕ) (fingers : List Finger) (now : Drawing)
   step_lowers new more true burst_so same = let a = burst_so refl in omega (arith, burst_lowers now applied.embedded a.bad, ap weight a.here)
   step_lowers new more false burst_so same = omega (arith, ap weight (same refl))
 
+  -- and keeps names
+  pub step_names : (more : List Finger) (b : Bool) (t u v : Table) → (b ≡ true → more ≡ fingers ++ burst now) → (b ≡ true → KeepsAllNames now (burst now) u v)
+      → (b ≡ false → (v ≡ u) × (more ≡ fingers)) → KeepsAllNames first fingers t u → KeepsAllNames first more t v
+  step_names more true t u v listed later same kept =
+      subst (λ gs. KeepsAllNames first gs t v) (sym (listed refl))
+      (names_through first fingers (burst now) t u v kept (subst (λ (e : Drawing). KeepsAllNames e (burst now) u v) applied.here (later refl)))
+  step_names more false t u v listed later same kept =
+      let (here, stay) = same refl in
+      subst (λ gs. KeepsAllNames first gs t v) (sym stay) (subst (λ (x : Table). KeepsAllNames first fingers t x) (sym here) kept)
+
   -- a refusal leaves the bursts that fit
   pub over_budget : (n left : ℕ) (new : Drawing) → n ≡ limit → is_nice now ≡ false → limit - length fingers < length (burst now) → left ≡ weight now → new ≡ now
       → (n ≡ limit) × (limit < length (strategy first)) × (new ≡ replayed first (within_limit limit first)) × (left ≡ weight new) × (1 ≤ left)
@@ -187,10 +198,20 @@ module _ (first : Drawing) (limit : ℕ) (fingers : List Finger) (now : Drawing)
       let (fits, over) = all_that_fit bad long in
       (limit_is, over, same ∙ (applied.here ∙ ap (replayed first) (sym fits)), left_is ∙ ap weight (sym same), omega (arith, weighs now applied.embedded bad, left_is))
 
+  -- and their names,
+  pub names_that_fit : (t u v : Table) → is_nice now ≡ false → limit - length fingers < length (burst now) → v ≡ u → KeepsAllNames first fingers t u → KeepsAllNames first (within_limit limit first) t v
+  names_that_fit t u v bad long same kept =
+      let (fits, over) = all_that_fit bad long in
+      subst (λ gs. KeepsAllNames first gs t v) (sym fits) (subst (λ (x : Table). KeepsAllNames first fingers t x) (sym same) kept)
+
   -- and want of memory some whole bursts
-  pub whole_bursts : (new : Drawing) → (new ≡ now) ⊎ ((is_nice now ≡ false) × (new ≡ replayed now (burst now))) → (n : ℕ) × (new ≡ replayed first (bursts_of n first))
-  whole_bursts new (inl same) = let (n, so) = applied.bursts in (n, same ∙ so)
-  whole_bursts new (inr (bad, here)) = let (n, so) = bursts_more bad in (n, here ∙ so)
+  pub whole_bursts : (new : Drawing) (t u v : Table) → new ≡ now → v ≡ u → KeepsAllNames first fingers t u → AreBurstsApplied first new t v
+  whole_bursts new t u v here same kept =
+      let (n, so) = applied.bursts in (
+        n,
+        here ∙ (applied.here ∙ ap (replayed first) so),
+        subst (λ gs. KeepsAllNames first gs t v) so (subst (λ (x : Table). KeepsAllNames first fingers t x) (sym same) kept),
+      )
 
 -- what holds for a refusal that isn't for want of memory
 pub where_refused : (P : Type 0) (refusal : PlanRefusal) → (refusal ≡ NoMemory → ⊥) → ((n left : ℕ) → refusal ≡ MoveBudget n left → P) → P

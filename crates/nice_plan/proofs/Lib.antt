@@ -20,6 +20,7 @@ mod Farther
 pub mod Fitting
 mod GoesBefore
 pub mod Laws
+mod KeptNames
 mod Ledger
 mod MeasuredReads
 mod NameOfChord

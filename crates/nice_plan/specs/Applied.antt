@@ -3,7 +3,9 @@ use Rattle.std.specs.Prelude.{◌≡◌, ℕ, ◌+◌, ◌-◌, ◌*◌, ◌<◌
 use Rattle.page_surface.specs.Drawing.{Drawing, IsEmbedded, all_exits}
 use Rattle.drawing.specs.declared.finger.Finger.{Finger}
 use Rattle.drawing.specs.Fingers.{replayed}
+use Rattle.region_table.specs.Changed.{KeepsAllNames}
 use Rattle.region_table.specs.Nice.{is_nice, weight}
+use Rattle.region_table.specs.Table.{Table}
 use Rattle.nice_plan.specs.Burst.{burst}
 use Rattle.nice_plan.specs.Strategy.{bursts_of, strategy, within_limit}
 use Rattle.nice_plan.specs.declared.refusal.PlanRefusal.{PlanRefusal}
@@ -17,7 +19,7 @@ pub record IsApplied (first : Drawing) (limit : ℕ) (fingers : List Finger) (no
   pub size : length (all_exits now) ≡ length (all_exits first) + 2 * length fingers
   pub planned : strategy first ≡ fingers ++ strategy now
   pub fits : within_limit limit first ≡ fingers ++ within_limit (limit - length fingers) now
-  pub bursts : (n : ℕ) × (now ≡ replayed first (bursts_of n first))
+  pub bursts : (n : ℕ) × (fingers ≡ bursts_of n first)
 
 -- the next burst was applied to a drawing that isn't nice, and fits what is left of the limit
 pub record IsBurstApplied (limit : ℕ) (old : Drawing) (fingers : List Finger) (new : Drawing) (more : List Finger) : Type 0 where
@@ -25,6 +27,10 @@ pub record IsBurstApplied (limit : ℕ) (old : Drawing) (fingers : List Finger) 
   pub short : length (burst old) ≤ limit - length fingers
   pub here : new ≡ replayed old (burst old)
   pub listed : more ≡ fingers ++ burst old
+
+-- a number of whole bursts was applied, and each piece that all their fingers kept has the name that it had
+abbrev pub AreBurstsApplied : Drawing → Drawing → Table → Table → Type 0
+AreBurstsApplied first now before after = (n : ℕ) × (now ≡ replayed first (bursts_of n first)) × KeepsAllNames first (bursts_of n first) before after
 
 -- where the strategy takes more fingers than the limit, a refusal names the limit, and the weight after the bursts that fit whole,
 -- which isn't 0

@@ -1,12 +1,13 @@
 // The bursts of the strategy, carried out one after another.
-ghost use Rattle.std.specs.Prelude.{◌≡◌, ◌≢◌, ◌⊎◌, ℕ, ◌+◌, ◌-◌, ◌*◌, ◌<◌, ◌≤◌, ◌^◌, true, false, length, Err, IfErr, IfNone, IfOk, IfSome, OnErr, OnOk};
+ghost use Rattle.std.specs.Prelude.{◌≡◌, ◌≢◌, ℕ, suc, ◌+◌, ◌-◌, ◌*◌, ◌<◌, ◌≤◌, ◌^◌, true, false, length, Err, IfErr, IfNone, IfOk, IfSome, OnErr, OnOk};
 ghost use Rattle.page_surface.specs.Drawing.{IsEmbedded, all_exits};
-ghost use Rattle.drawing.specs.Fingers.{AllLegal, replayed};
+ghost use Rattle.drawing.specs.Fingers.{AllLegal, IsLegal, pushed, replayed};
+ghost use Rattle.region_table.specs.Changed.{KeepsAllNames, KeepsNames};
 ghost use Rattle.region_table.specs.Nice.{is_nice, weight};
 ghost use Rattle.region_table.specs.Table.{HasDistances, IsTableOf};
-ghost use Rattle.nice_plan.specs.Applied.{IsBurstApplied, IsOverBudget};
+ghost use Rattle.nice_plan.specs.Applied.{AreBurstsApplied, IsBurstApplied, IsOverBudget};
 ghost use Rattle.nice_plan.specs.Burst.{burst};
-ghost use Rattle.nice_plan.specs.Strategy.{bursts_of, strategy};
+ghost use Rattle.nice_plan.specs.Strategy.{strategy, within_limit};
 ghost use Rattle.nice_plan.specs.declared.refusal.PlanRefusal.TheVariants as refused;
 
 use crate::PlanRefusal;
@@ -55,22 +56,54 @@ fn next_within(
     Ok(Some(fingers))
 }
 
-// Pushes legal fingers, one after another. Room for all is taken first, so where memory is wanting the drawing stays.
-fn push_all(drawing: &mut Drawing, fingers: &[Finger]) -> Result<(), NoMemory>
+// Pushes a legal finger, and brings the table up to date but for distances.
+fn push(drawing: &mut Drawing, regions: &mut Regions, finger: &Finger)
+    requires legal { IsLegal drawing.old.drawing finger.now }
+    requires table { IsTableOf drawing.old.drawing regions.old }
+    requires room { 1 ≤ drawing.old.room }
+    requires table_room { 1 ≤ regions.old.room }
+    ensures pushed { drawing.new.drawing ≡ pushed drawing.old.drawing finger.now }
+    ensures table { IsTableOf drawing.new.drawing regions.new }
+    ensures names { KeepsNames drawing.old.drawing finger.now regions.old regions.new }
+    ensures room { suc drawing.new.room ≡ drawing.old.room }
+    ensures table_room { suc regions.new.room ≡ regions.old.room }
+{
+    // That a drawing has points says that it is embedded.
+    let _ = drawing.points();
+    apply(drawing, finger);
+    let _ = regions.after_finger(drawing, finger);
+}
+
+// Pushes legal fingers, one after another, brings the table up to date after each, and measures it after all. Room for all
+// is taken first in both, so where memory is wanting both stay.
+fn push_all(
+    drawing: &mut Drawing,
+    regions: &mut Regions,
+    fingers: &[Finger],
+) -> Result<(), NoMemory>
     requires legal { AllLegal drawing.old.drawing fingers.now }
+    requires table { IsTableOf drawing.old.drawing regions.old }
     requires few { length (all_exits drawing.old.drawing) + 2 * length fingers.now < 2 ^ 28 }
     ensures pushed { OnOk result (drawing.new.drawing ≡ replayed drawing.old.drawing fingers.now) }
+    ensures table { OnOk result (IsTableOf drawing.new.drawing regions.new) }
+    ensures distances { OnOk result (HasDistances drawing.new.drawing regions.new) }
+    ensures names { OnOk result (KeepsAllNames drawing.old.drawing fingers.now regions.old regions.new) }
     ensures stays { OnErr result (drawing.new.drawing ≡ drawing.old.drawing) }
+    ensures table_stays { OnErr result (regions.new ≡ regions.old) }
 {
     let count = fingers.len() as u32;
     drawing.reserve(count)?;
+    regions.reserve(count)?;
     for finger in fingers {
-        apply(drawing, finger);
+        push(drawing, regions, finger);
     }
+    let _ = drawing.points();
+    regions.measure();
     Ok(())
 }
 
-// Applies the next burst, and answers whether there was one: none is left exactly where the drawing is nice.
+// Applies the next burst, and answers whether there was one: none is left exactly where the drawing is nice. A refusal
+// leaves drawing and table as they are.
 fn apply_next(
     alloc: Global,
     drawing: &mut Drawing,
@@ -83,23 +116,23 @@ fn apply_next(
     requires distances { HasDistances drawing.old.drawing regions.old }
     requires short { length fingers.old.items ≤ limit }
     requires few { length (all_exits drawing.old.drawing) + 2 * (limit - length fingers.old.items) < 2 ^ 28 }
-    ensures nice { IfOk result (λ more. more ≡ false → (is_nice drawing.old.drawing ≡ true) × (drawing.new ≡ drawing.old) × (fingers.new.items ≡ fingers.old.items)) }
+    ensures nice { IfOk result (λ more. more ≡ false → (is_nice drawing.old.drawing ≡ true) × (drawing.new ≡ drawing.old) × (regions.new ≡ regions.old) × (fingers.new.items ≡ fingers.old.items)) }
     ensures burst { IfOk result (λ more. more ≡ true → IsBurstApplied limit drawing.old.drawing fingers.old.items drawing.new.drawing fingers.new.items) }
+    ensures names { IfOk result (λ more. more ≡ true → KeepsAllNames drawing.old.drawing (burst drawing.old.drawing) regions.old regions.new) }
     ensures table { OnOk result (IsTableOf drawing.new.drawing regions.new) }
     ensures distances { OnOk result (HasDistances drawing.new.drawing regions.new) }
     ensures budget { IfErr result (λ refusal. (n w : ℕ) → refusal ≡ refused.MoveBudget n w
         → (n ≡ limit) × (is_nice drawing.old.drawing ≡ false) × (limit - length fingers.old.items < length (burst drawing.old.drawing))
-        × (w ≡ weight drawing.old.drawing) × (drawing.new ≡ drawing.old) × (regions.new ≡ regions.old)) }
-    ensures memory { result ≡ Err refused.NoMemory → (drawing.new.drawing ≡ drawing.old.drawing)
-        ⊎ ((is_nice drawing.old.drawing ≡ false) × (drawing.new.drawing ≡ replayed drawing.old.drawing (burst drawing.old.drawing))) }
+        × (w ≡ weight drawing.old.drawing)) }
+    ensures stays { OnErr result (drawing.new.drawing ≡ drawing.old.drawing) }
+    ensures table_stays { OnErr result (regions.new ≡ regions.old) }
 {
     let left = limit - fingers.len() as u32;
     let Some(burst) = next_within(alloc, drawing, regions, limit, left)? else {
         return Ok(false);
     };
     fingers.extend_from_slice(&burst)?;
-    push_all(drawing, &burst)?;
-    *regions = Regions::of(alloc, drawing)?;
+    push_all(drawing, regions, &burst)?;
     Ok(true)
 }
 
@@ -117,9 +150,11 @@ fn apply_all(
     ensures within { OnOk result (length (strategy drawing.old.drawing) ≤ limit) }
     ensures drawing { OnOk result (drawing.new.drawing ≡ replayed drawing.old.drawing (strategy drawing.old.drawing)) }
     ensures budget { IfErr result (IsOverBudget drawing.old.drawing limit drawing.new.drawing) }
-    ensures memory { result ≡ Err refused.NoMemory → (n : ℕ) × (drawing.new.drawing ≡ replayed drawing.old.drawing (bursts_of n drawing.old.drawing)) }
-    ensures table { result ≢ Err refused.NoMemory → IsTableOf drawing.new.drawing regions.new }
-    ensures distances { result ≢ Err refused.NoMemory → HasDistances drawing.new.drawing regions.new }
+    ensures memory { result ≡ Err refused.NoMemory → AreBurstsApplied drawing.old.drawing drawing.new.drawing regions.old regions.new }
+    ensures table { IsTableOf drawing.new.drawing regions.new }
+    ensures distances { HasDistances drawing.new.drawing regions.new }
+    ensures names { OnOk result (KeepsAllNames drawing.old.drawing (strategy drawing.old.drawing) regions.old regions.new) }
+    ensures names_within { IfErr result (λ refusal. refusal ≢ refused.NoMemory → KeepsAllNames drawing.old.drawing (within_limit limit drawing.old.drawing) regions.old regions.new) }
 {
     let _ = drawing.points();
     let mut fingers = Vec::new(alloc);
@@ -140,8 +175,9 @@ fn apply_all(
 /// diagram then stands after the bursts that fit whole, with their weight, which isn't 0. Room for a burst is taken before
 /// its first finger, so `NoMemory` leaves the diagram after a number of whole bursts.
 ///
-/// The table that is lent must be the diagram's, with fresh distances, and is so again after every answer but `NoMemory`: it
-/// is made anew after each burst. Beside that each burst costs what `burst` does, and each finger is linear in all exits.
+/// The table that is lent must be the diagram's, with fresh distances, and is so again after every answer: it is brought up
+/// to date after each finger and measured after each burst. A piece that every applied finger kept has the name that it
+/// had. Each burst costs what `burst` does and what `measure` does, and each finger is linear in all exits.
 /// The strategy is this project's own, after Sarkar and Wang (2010).
 pub fn make_nice(
     alloc: Global,
@@ -158,10 +194,12 @@ pub fn make_nice(
     ensures drawing { OnOk result (diagram.new ≡ replayed diagram.old (strategy diagram.old)) }
 
     ensures budget { IfErr result (IsOverBudget diagram.old limit diagram.new) }
-    ensures memory { result ≡ Err refused.NoMemory → (n : ℕ) × (diagram.new ≡ replayed diagram.old (bursts_of n diagram.old)) }
+    ensures memory { result ≡ Err refused.NoMemory → AreBurstsApplied diagram.old diagram.new regions.old regions.new }
 
-    ensures table { result ≢ Err refused.NoMemory → IsTableOf diagram.new regions.new }
-    ensures distances { result ≢ Err refused.NoMemory → HasDistances diagram.new regions.new }
+    ensures table { IsTableOf diagram.new regions.new }
+    ensures distances { HasDistances diagram.new regions.new }
+    ensures names { OnOk result (KeepsAllNames diagram.old (strategy diagram.old) regions.old regions.new) }
+    ensures names_within { IfErr result (λ refusal. refusal ≢ refused.NoMemory → KeepsAllNames diagram.old (within_limit limit diagram.old) regions.old regions.new) }
 {
     apply_all(alloc, diagram.drawing_mut(), regions, limit)
 }

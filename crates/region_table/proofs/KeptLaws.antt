@@ -1,4 +1,4 @@
--- The table kept through some fingers is the one made from scratch, up to names.
+-- The table kept through some fingers is the one made from scratch, up to names; taking room for them changes no table.
 use Rattle.std.proofs.Common.{◌≡◌, ℕ, List, [], ◌∷◌, sym, subst}
 use Rattle.page_surface.specs.Drawing.{Drawing}
 use Rattle.drawing.specs.declared.finger.Finger.{Finger}
@@ -21,3 +21,25 @@ pub one_table_through : (d : Drawing) (fs : List Finger) (t u v : Table) → IsT
 one_table_through d fs t u v told kept made =
     let there = kept_through d fs t u told kept in
     (renamed (replayed d fs) u v there made, one_table_up_to_names (replayed d fs) u v there made)
+
+-- a table with room for more fingers is the table of the same drawing
+pub roomier : (d : Drawing) (t u : Table) → u ≡ record t { room = u.room } → IsTableOf d t → IsTableOf d u
+roomier d t u is told = subst (IsTableOf d) (sym is) (room_aside d t u.room told)
+  where
+    room_aside : (d : Drawing) (t : Table) (n : ℕ) → IsTableOf d t → IsTableOf d (record t { room = n })
+    room_aside d t n told = record {
+      polygon = told.polygon;
+      starts = told.starts;
+      mates = told.mates;
+      begins = told.begins;
+      every_span = told.every_span;
+      naming = told.naming;
+      told = told.told;
+      used = told.used;
+      base = told.base;
+      first = told.first;
+      size = told.size;
+      inner_once = told.inner_once;
+      inner_listed = told.inner_listed;
+      listed_inner = told.listed_inner;
+    }
