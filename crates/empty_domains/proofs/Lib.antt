@@ -61,3 +61,9 @@ mod LedSteps
 mod LedMade
 mod MarkSteps
 mod SpotReads
+mod Verified
+mod Tested
+mod Ascending
+mod Cornerless
+mod FoundSteps
+mod RowOnce

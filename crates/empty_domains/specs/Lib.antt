@@ -1,3 +1,4 @@
+pub mod Found
 pub mod Ground
 pub mod Kept
 pub mod Leads

@@ -1,4 +1,4 @@
-// Collecting the pieces along rows, by which the test of a step will read off what the step finds.
+// Collecting the pieces along rows, by which the test of a step reads off what the step finds.
 ghost use Rattle.std.specs.Prelude.{◌≡◌, ℕ, ◌+◌, ◌<◌, ◌≤◌, ◌^◌, ◌++◌, false, length, List, map, nat_eq, slice_index, slice_index_or, suc, IfOk, OnOk};
 ghost use Rattle.std.specs.List.{count_by, flat_map};
 ghost use Rattle.obd_base.specs.Lists.{Mem, below};

@@ -54,7 +54,7 @@ pub(crate) fn standing(
     requires few { span_count diagram.now < 2 ^ 30 }
     ensures { IfOk result (λ standing. IsStanding diagram.now points.now standing.items) }
 {
-    let mut standing = Vec::new(alloc);
+    let mut standing = Vec::with_capacity(alloc, polygon.sides() as usize)?;
     for side in 0..polygon.sides() {
         standing.push(stand(diagram, polygon, starts, points, side))?;
     }

@@ -1,4 +1,4 @@
-// The rules of domains near the rows of a step, for the test of a step that is to come.
+// The rules of domains near the rows of a step.
 ghost use Rattle.std.specs.Prelude.{◌≡◌, ℕ, ◌+◌, ◌<◌, ◌≤◌, ◌&&◌, ◌^◌, cond, length, slice_index};
 ghost use Rattle.obd_base.specs.Lists.{Mem};
 ghost use Rattle.page_surface.specs.Drawing.{IsEmbedded};

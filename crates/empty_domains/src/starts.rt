@@ -1,5 +1,5 @@
-// The rows of a step, and whether it is fresh, for the test of a step that is to come.
-ghost use Rattle.std.specs.Prelude.{◌≡◌, ℕ, ◌+◌, ◌<◌, ◌^◌, length, not, slice_index, suc, IfOk};
+// The rows of a step, and whether it is fresh.
+ghost use Rattle.std.specs.Prelude.{◌≡◌, ℕ, ◌+◌, ◌<◌, ◌^◌, length, not, slice_index, suc, OnOk};
 ghost use Rattle.std.specs.List.{list_all};
 ghost use Rattle.obd_base.specs.Lists.{Mem, below};
 ghost use Rattle.empty_domains.specs.Sweep.{starts};
@@ -8,19 +8,18 @@ ghost use Rattle.empty_domains.specs.Walk.{is_last};
 use crate::strip::Step;
 use crate::tables::Tables;
 use obd_base::NoMemory;
-use std::alloc::Global;
 
-// Where so many rows from a number on begin.
+// Tells where so many rows from a number on begin, in the place of what the list held.
 pub(crate) fn row_starts(
-    alloc: Global,
     tables: &Tables,
     start: u32,
     count: u32,
-) -> Result<Vec<u32>, NoMemory>
+    rows: &mut Vec<u32>,
+) -> Result<(), NoMemory>
     requires { start < length tables.now.other }
-    ensures { IfOk result (λ rows. rows.items ≡ starts (λ x. slice_index tables.now.other x) (λ x. slice_index tables.now.opposite x) start count) }
+    ensures { OnOk result (rows.new.items ≡ starts (λ x. slice_index tables.now.other x) (λ x. slice_index tables.now.opposite x) start count) }
 {
-    let mut rows = Vec::new(alloc);
+    rows.clear();
     let mut at = start;
     let mut row: u32 = 0;
     while row < count {
@@ -28,7 +27,7 @@ pub(crate) fn row_starts(
         at = tables.opposite(tables.other(at));
         row += 1;
     }
-    Ok(rows)
+    Ok(())
 }
 
 // Whether a row is the last one of a step: its far edge starts at the stop, or, for a bigon, it is the near edge.

@@ -1,15 +1,12 @@
 // The steps of all strips behind a generator's points.
-ghost use Rattle.std.specs.Prelude.{◌≡◌, ℕ, ◌<◌, ◌^◌, ◌++◌, length, map, slice_index, IfOk, OnOk};
+ghost use Rattle.std.specs.Prelude.{◌≡◌, ℕ, ◌<◌, ◌++◌, List, length, map, slice_index, IfOk, OnOk};
 ghost use Rattle.obd_base.specs.Lists.{below};
 ghost use Rattle.page_surface.specs.Drawing.{IsEmbedded};
 ghost use Rattle.page_surface.specs.Polygon.{arc_count, sides};
-ghost use Rattle.drawing.specs.Layout.{offsets_of};
-ghost use Rattle.drawing.specs.Pieces.{span_count};
 ghost use Rattle.drawing.specs.Points.{IsGenerator};
 ghost use Rattle.empty_domains.specs.Strip.{all_strips};
-ghost use Rattle.empty_domains.specs.Ground.{IsGround, all_strips_by, arc_strips_by, room_by, strip_by};
+ghost use Rattle.empty_domains.specs.Ground.{IsGround, IsStanding, all_strips_by, arc_strips_by, room_by, strip_by};
 
-use crate::generator_sides::standing;
 use crate::strip::{Corner, Step, strip};
 use crate::tables::Tables;
 use hkm_diagram::Diagram;
@@ -103,24 +100,20 @@ pub(crate) fn all_steps(
     Ok(steps)
 }
 
-// The steps behind the points of a generator.
+// The steps behind the points of a generator, by where it stands.
 pub(crate) fn steps_from(
     alloc: Global,
     diagram: &Diagram,
     polygon: &Polygon,
     tables: &Tables,
-    starts: &[u32],
-    points: &[u32],
+    standing: &[u32],
 ) -> Result<Vec<Step>, NoMemory>
     requires valid { IsEmbedded diagram.now }
     requires polygon { polygon.now ≡ diagram.now.polygon }
     requires tables { IsGround diagram.now tables.now }
-    requires starts { starts.now ≡ offsets_of diagram.now }
-    requires points { IsGenerator diagram.now points.now }
-    requires few { span_count diagram.now < 2 ^ 30 }
-    ensures { IfOk result (λ steps. steps.items ≡ all_strips diagram.now points.now) }
+    requires standing { (y : List ℕ) × IsGenerator diagram.now y × IsStanding diagram.now y standing.now }
+    ensures { (y : List ℕ) → IsGenerator diagram.now y → IsStanding diagram.now y standing.now → IfOk result (λ steps. steps.items ≡ all_strips diagram.now y) }
 {
-    let standing = standing(alloc, diagram, polygon, starts, points)?;
     let mut lasts = vec![in alloc; 0u32; standing.len()]?;
-    all_steps(alloc, diagram, polygon, tables, &standing, &mut lasts)
+    all_steps(alloc, diagram, polygon, tables, standing, &mut lasts)
 }

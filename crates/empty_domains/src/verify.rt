@@ -1,5 +1,5 @@
-// The generator to which a fresh step leads by a domain, for the test of a step that is to come.
-ghost use Rattle.std.specs.Prelude.{◌≡◌, ◌+◌, ◌<◌, ◌^◌, true, length, slice_index, suc, IfOk};
+// The test of a step: the generator to which it leads by a domain.
+ghost use Rattle.std.specs.Prelude.{◌≡◌, ℕ, ◌+◌, ◌<◌, ◌^◌, false, true, length, slice_index, slice_index_or, suc, IfOk, OnOk};
 ghost use Rattle.obd_base.specs.Lists.{Mem};
 ghost use Rattle.page_surface.specs.Drawing.{IsEmbedded};
 ghost use Rattle.page_surface.specs.Polygon.{arc_count};
@@ -10,16 +10,17 @@ ghost use Rattle.drawing.specs.Round.{point_of};
 ghost use Rattle.empty_domains.specs.Ground.{IsGround, IsSpot, IsStanding};
 ghost use Rattle.empty_domains.specs.Led.{IsLed};
 ghost use Rattle.empty_domains.specs.Marks.{AreMarked};
-ghost use Rattle.empty_domains.specs.NearTest.{swept};
+ghost use Rattle.empty_domains.specs.NearTest.{IsCollected, swept};
 ghost use Rattle.empty_domains.specs.Strip.{all_strips, is_fresh};
 ghost use Rattle.empty_domains.specs.Sweep.{starts as rows_of};
 ghost use Rattle.empty_domains.specs.Walk.{target};
 ghost use Rattle.region_table.specs.Nice.{IsNice};
 
-use crate::collect::bigons;
+use crate::collect::{bigons, collect, unmark};
 use crate::drawing_tables::points_on;
 use crate::generator_sides::standing;
 use crate::rules::keeps_near;
+use crate::starts::{is_fresh, row_starts};
 use crate::strip::Step;
 use crate::tables::Tables;
 use generator_list::Generators;
@@ -80,7 +81,7 @@ fn led_points(
 }
 
 // The generator to which a fresh step leads by the pieces along its rows, which are marked.
-pub(crate) fn led_to(
+fn led_to(
     alloc: Global,
     diagram: &Diagram,
     polygon: &Polygon,
@@ -128,4 +129,54 @@ pub(crate) fn led_to(
     } else {
         Ok(None)
     }
+}
+
+// The test of a step: the generator to which it leads by a domain, and none where an earlier row of it is the last or
+// its pieces are no domain. What is found is left in `found`, and no piece is marked before and after. Linear in the
+// pieces along its rows, besides 16 sides and the search for a generator.
+pub(crate) fn verify(
+    alloc: Global,
+    diagram: &Diagram,
+    polygon: &Polygon,
+    tables: &Tables,
+    starts: &[u32],
+    pieces: &[u32],
+    generators: &Generators,
+    y: &[u32],
+    from: &[u32],
+    step: Step,
+    rows: &mut Vec<u32>,
+    marks: &mut [bool],
+    found: &mut Vec<u32>,
+) -> Result<Option<GenNo>, NoMemory>
+    requires valid { IsEmbedded diagram.now }
+    requires nice { IsNice diagram.now }
+    requires polygon { polygon.now ≡ diagram.now.polygon }
+    requires tables { IsGround diagram.now tables.now }
+    requires starts { starts.now ≡ offsets_of diagram.now }
+    requires pieces { pieces.now ≡ piece_table diagram.now }
+    requires generators { generators.now ≡ all_generators diagram.now }
+    requires y { IsGenerator diagram.now y.now }
+    requires from { IsStanding diagram.now y.now from.now }
+    requires read { Mem step (all_strips diagram.now y.now) }
+    requires few { span_count diagram.now < 2 ^ 30 }
+    requires marks { length marks.old ≡ span_count diagram.now }
+    requires unmarked { (piece : ℕ) → slice_index_or marks.old piece false ≡ false }
+    ensures led { IfOk result (λ to. IsLed diagram.now y.now generators.now step to) }
+    ensures found { OnOk result (is_fresh diagram.now step ≡ true → IsCollected pieces.now (swept diagram.now step.by) found.new.items) }
+    ensures size { length marks.new ≡ length marks.old }
+    ensures unmarked { OnOk result ((piece : ℕ) → slice_index_or marks.new piece false ≡ false) }
+{
+    row_starts(tables, step.start, step.row + 1, rows)?;
+    if !is_fresh(tables, step, rows) {
+        return Ok(None);
+    }
+    found.clear();
+    collect(pieces, rows, step.width, marks, found)?;
+    let led = led_to(
+        alloc, diagram, polygon, tables, starts, pieces, generators, y, from, step, rows, marks,
+        found,
+    )?;
+    unmark(found, marks);
+    Ok(led)
 }

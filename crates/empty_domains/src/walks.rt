@@ -4,16 +4,21 @@ ghost use Rattle.drawing.specs.Pieces.{piece_of, span_count, spans};
 ghost use Rattle.drawing.specs.Round.{other_end};
 ghost use Rattle.page_surface.specs.Drawing.{IsEmbedded, chords};
 ghost use Rattle.drawing.specs.Points.{generators as all_generators};
+ghost use Rattle.empty_domains.specs.Found.{AreDomains};
 ghost use Rattle.empty_domains.specs.Leads.{IsWalk};
 ghost use Rattle.empty_domains.specs.Strip.{step_leads};
+ghost use Rattle.empty_domains.specs.Targets.{AreTargets};
 ghost use Rattle.empty_domains.specs.Walks.{AreWalksOf};
 ghost use Rattle.region_table.specs.Nice.{IsNice};
 ghost use Rattle.region_table.specs.Table.{IsTableOf};
 
+use crate::domains::{Domain, domains_of};
 use crate::drawing_tables::drawing_tables;
+use crate::generator_sides::standing;
 use crate::steps::steps_from;
 use crate::strip::Step;
 use crate::tables::Tables;
+use crate::targets::targets_of;
 use generator_list::Generators;
 use hkm_diagram::Diagram;
 use obd_base::{GenNo, NoMemory};
@@ -113,7 +118,106 @@ impl Walks {
         let _ = diagram.drawing().points();
         let polygon = diagram.drawing().polygon();
         let _ = polygon.sides();
-        let points = generators.points(from);
-        steps_from(alloc, diagram, polygon, &self.tables, &self.starts, points)
+        let y = generators.points(from);
+        let standing = standing(alloc, diagram, polygon, &self.starts, y)?;
+        steps_from(alloc, diagram, polygon, &self.tables, &standing)
     }
+
+    /// The numbers of the generators to which the domains from a generator lead, one for each domain, so that a number
+    /// comes as often as there are domains to it. The drawing must be nice, and the tables and generators the diagram's.
+    ///
+    /// The steps are tested one by one, each in time linear in the pieces along its rows, besides the sides and the search
+    /// for its target; no set is written down. A mark for each point is cleared once a call.
+    pub fn targets(
+        &self,
+        alloc: Global,
+        diagram: &Diagram,
+        generators: &Generators,
+        from: GenNo,
+    ) -> Result<Vec<u32>, NoMemory>
+        requires walks { AreWalksOf diagram.now self.now }
+        requires nice { IsNice diagram.now }
+        requires generators { generators.now ≡ all_generators diagram.now }
+        requires from { from < length generators.now }
+        ensures { IfOk result (λ targets. AreTargets diagram.now (slice_index_or generators.now from []) generators.now targets.items) }
+    {
+        let _ = diagram.drawing().points();
+        let polygon = diagram.drawing().polygon();
+        let _ = polygon.sides();
+        let y = generators.points(from);
+        let standing = standing(alloc, diagram, polygon, &self.starts, y)?;
+        let steps = steps_from(alloc, diagram, polygon, &self.tables, &standing)?;
+        targets_of(
+            alloc,
+            diagram,
+            polygon,
+            &self.tables,
+            &self.starts,
+            &self.pieces,
+            generators,
+            y,
+            &standing,
+            &steps,
+        )
+    }
+
+    /// All domains from a generator, each set once, with the generator to which it leads. The drawing must be nice, and
+    /// the tables and generators the diagram's.
+    ///
+    /// In time linear in the pieces along the rows of the steps, besides the sides, the sorting of each set and the
+    /// search for its target; a mark for each point is cleared once a call.
+    pub fn domains(
+        &self,
+        alloc: Global,
+        diagram: &Diagram,
+        generators: &Generators,
+        from: GenNo,
+    ) -> Result<Vec<Domain>, NoMemory>
+        requires walks { AreWalksOf diagram.now self.now }
+        requires nice { IsNice diagram.now }
+        requires generators { generators.now ≡ all_generators diagram.now }
+        requires from { from < length generators.now }
+        ensures { IfOk result (λ domains. AreDomains diagram.now (slice_index_or generators.now from []) generators.now domains.items) }
+    {
+        let _ = diagram.drawing().points();
+        let polygon = diagram.drawing().polygon();
+        let _ = polygon.sides();
+        let y = generators.points(from);
+        let standing = standing(alloc, diagram, polygon, &self.starts, y)?;
+        let steps = steps_from(alloc, diagram, polygon, &self.tables, &standing)?;
+        domains_of(
+            alloc,
+            diagram,
+            polygon,
+            &self.tables,
+            &self.starts,
+            &self.pieces,
+            generators,
+            y,
+            &standing,
+            &steps,
+        )
+    }
+}
+
+/// All domains from a generator of a nice drawing, each set once, with the generator to which it leads. The table of
+/// regions and the generators must be the diagram's.
+///
+/// It makes the tables of `Walks::of` and asks `Walks::domains`: linear in the points for the tables, and then in the
+/// pieces along the rows of the steps, besides the sorting of each set and the search for its target.
+pub fn domains_from(
+    alloc: Global,
+    diagram: &Diagram,
+    regions: &Regions,
+    generators: &Generators,
+    from: GenNo,
+) -> Result<Vec<Domain>, NoMemory>
+    requires table { IsTableOf diagram.now regions.now }
+    requires nice { IsNice diagram.now }
+    requires generators { generators.now ≡ all_generators diagram.now }
+    requires from { from < length generators.now }
+    ensures { IfOk result (λ domains. AreDomains diagram.now (slice_index_or generators.now from []) generators.now domains.items) }
+{
+    let walks = Walks::of(alloc, diagram, regions)?;
+    walks.domains(alloc, diagram, generators, from)
 }
