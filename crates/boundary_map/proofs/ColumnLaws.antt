@@ -1,22 +1,15 @@
 -- Columns ascend, their rows are numbers of generators, and that of the contact generator is empty.
-use Rattle.std.proofs.Common.{◌≡◌, ℕ, zero, suc, ◌+◌, ◌<◌, List, [], ◌∷◌, get_or, length, map, refl, sym, ◌∙◌, ap, subst, arith}
-use Rattle.std.specs.List.{range_with_len}
+use Rattle.std.proofs.Common.{◌≡◌, ℕ, zero, suc, ◌<◌, List, [], ◌∷◌, get_or, length, map, refl, sym, ◌∙◌, ap, subst, arith}
 use Rattle.std.specs.List.Sorted.{IsStrictlyIncreasing}
-use Rattle.std.proofs.lemmas.List.FromFn.{get_or-range_with_len, length-range_with_len}
 use Rattle.std.proofs.lemmas.List.Kept.{IsStrictlyIncreasing-filter}
 use Rattle.drawing.specs.Points.{contact_generator, generators}
+use Rattle.empty_domains.proofs.Increasing.{increasing_range}
 use Rattle.hkm_diagram.proofs.Laws.{contact_column_is_empty}
 use Rattle.hkm_diagram.specs.Domains.{column, columns}
 use Rattle.obd_base.proofs.lists.Below.{mem_below}
 use Rattle.obd_base.proofs.lists.Members.{mem_filter, mem_map}
 use Rattle.obd_base.specs.Lists.{Mem, below}
 use Rattle.page_surface.specs.Drawing.{Drawing, IsEmbedded}
-
--- ranges increase
-increasing_range : (a n : ℕ) → IsStrictlyIncreasing (range_with_len a n)
-increasing_range a n k l =
-    let s = length-range_with_len a n in
-    omega (arith, get_or-range_with_len a n k 0 (omega arith), get_or-range_with_len a n (k + 1) 0 (omega arith))
 
 -- an entry of a mapped list
 entry_map : (f : List ℕ → List ℕ) (xs : List (List ℕ)) (i : ℕ) → i < length xs → get_or (map f xs) i [] ≡ f (get_or xs i [])

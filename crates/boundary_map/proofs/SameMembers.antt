@@ -4,6 +4,7 @@ use Rattle.std.specs.List.{sum_by}
 use Rattle.std.proofs.lemmas.Bool.{cases_Bool, eq-eqb, ne_eqb}
 use Rattle.std.proofs.lemmas.List.Sums.{sum_by-append, sum_by-cons}
 use Rattle.drawing.proofs.Lists.{mem_has}
+use Rattle.empty_domains.proofs.ListFacts.{filter_same}
 use Rattle.obd_base.proofs.lists.Members.{mem_append, mem_left, mem_map, mem_right, mem_to_map, split}
 use Rattle.obd_base.proofs.lists.Parts.{mem_parts}
 use Rattle.obd_base.specs.Lists.{Mem, Once, has, parts}
@@ -53,11 +54,6 @@ filter_part p (x ∷ xs) = go (p x) refl (filter_part p xs)
     go : (b : Bool) → p x ≡ b → Mem (filter p xs) (parts xs) → Mem (cond b (x ∷ filter p xs) (filter p xs)) (parts (x ∷ xs))
     go true e ih = mem_right _ (parts xs) _ (mem_to_map (λ w. x ∷ w) (filter p xs) (parts xs) ih)
     go false e ih = mem_left _ (parts xs) _ ih
-
--- tests that agree on the members pick the same
-pub filter_same : (p q : ℕ → Bool) (xs : List ℕ) → ((x : ℕ) → Mem x xs → p x ≡ q x) → filter p xs ≡ filter q xs
-filter_same p q [] h = refl
-filter_same p q (x ∷ xs) h = rw (h x (inl refl), filter_same p q xs (λ z m. h z (inr m))) refl
 
 -- a part is what the test of its members picks
 pub part_filter : (s xs : List ℕ) → Once xs → Mem s (parts xs) → s ≡ filter (has s) xs

@@ -5,7 +5,7 @@ use Rattle.std.proofs.lemmas.List.{get_or-set_other, get_or-set_same, length-app
 use Rattle.std.proofs.lemmas.List.Elements.{filter-append}
 use Rattle.boundary_map.proofs.AnyOrder.{domain_number, passing_rules}
 use Rattle.boundary_map.proofs.LedTo.{led_to_is}
-use Rattle.boundary_map.proofs.SameMembers.{filter_same}
+use Rattle.empty_domains.proofs.ListFacts.{filter_same}
 use Rattle.boundary_map.specs.Sets.{led_to}
 use Rattle.boundary_map.specs.Tried.{AreOdd, IsTarget, domain_count}
 use Rattle.drawing.proofs.Generators.{generators_once, listed_is_generator}
@@ -23,7 +23,7 @@ at_mem (x ∷ xs) zero l = inl refl
 at_mem (x ∷ xs) (suc i) l = inr (at_mem xs i (omega arith))
 
 -- in a list without repeats two places with one entry are one
-same_place : (xs : List (List ℕ)) (i j : ℕ) → Once xs → i < length xs → j < length xs → get_or xs i [] ≡ get_or xs j [] → i ≡ j
+pub same_place : (xs : List (List ℕ)) (i j : ℕ) → Once xs → i < length xs → j < length xs → get_or xs i [] ≡ get_or xs j [] → i ≡ j
 same_place [] i j o l k e = absurd (omega arith)
 same_place (x ∷ xs) zero zero o l k e = refl
 same_place (x ∷ xs) zero (suc j) o l k e = absurd (o.0 (subst (λ z. Mem z xs) (sym e) (at_mem xs j (omega arith))))

@@ -1,2 +1,3 @@
+pub mod Odds
 pub mod Sets
 pub mod Tried

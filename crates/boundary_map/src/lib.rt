@@ -6,11 +6,13 @@
 //! counted are this project's own.
 #![tactic(auto)]
 
-mod columns;
 mod led;
+mod plain;
 mod quadrants;
 mod rules;
 mod sets;
 mod tried;
+mod walked;
 
-pub use columns::columns_plain;
+pub use plain::columns_plain;
+pub use walked::columns;

@@ -1,7 +1,7 @@
 use Rattle.std.proofs.Common.{ℕ, Bool, ◌∙◌, ◌+◌, ◌++◌, ◌∷◌, [], false, ap, get_or, refl, sym}
 use Rattle.boundary_map.proofs.Loops.{pick_no, pick_yes}
-use Rattle.boundary_map.proofs.columns.flagged.Goals as goal
-use Rattle.boundary_map.proofs.columns.flagged.Goals.{then-flags-number+in_ok-push, else-flags-number}
+use Rattle.boundary_map.proofs.plain.flagged.Goals as goal
+use Rattle.boundary_map.proofs.plain.flagged.Goals.{then-flags-number+in_ok-push, else-flags-number}
 
 pub loop-number-preserved : goal.loop-number-preserved
 loop-number-preserved c = elim c.if-flags-number.branch [

@@ -4,7 +4,7 @@ use Rattle.boundary_map.proofs.ColumnLaws.{columns_ascend, contact_empty, rows_b
 use Rattle.hkm_diagram.specs.Domains.{column}
 use Rattle.obd_base.specs.Lists.{Mem}
 use Rattle.page_surface.specs.Drawing.{IsEmbedded}
-use Rattle.boundary_map.proofs.columns.columns_plain.Goals as goal
+use Rattle.boundary_map.proofs.walked.columns.Goals as goal
 
 pub returns-clause-columns : goal.returns-clause-columns
 returns-clause-columns c =

@@ -1,6 +1,6 @@
 use Rattle.std.proofs.Common.{◌≡◌, false, filter, get_or}
 use Rattle.obd_base.specs.Lists.{below}
-use Rattle.boundary_map.proofs.columns.flagged.Given as goal
+use Rattle.boundary_map.proofs.plain.flagged.Given as goal
 
 -- those so far
 abbrev pub invariant-loop-number : goal.invariant-loop-number

@@ -1,6 +1,6 @@
 use Rattle.std.proofs.Common.{◌≡◌, map, take}
 use Rattle.hkm_diagram.specs.Domains.{column}
-use Rattle.boundary_map.proofs.columns.columns_plain.Given as goal
+use Rattle.boundary_map.proofs.walked.columns.Given as goal
 
 -- the columns of the generators so far
 abbrev pub invariant-loop-number : goal.invariant-loop-number

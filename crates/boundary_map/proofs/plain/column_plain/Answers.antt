@@ -7,7 +7,7 @@ use Rattle.drawing.proofs.Generators.{listed_is_generator}
 use Rattle.drawing.specs.Points.{IsGenerator}
 use Rattle.hkm_diagram.specs.Domains.{column}
 use Rattle.obd_base.specs.Lists.{Mem, parts}
-use Rattle.boundary_map.proofs.columns.column_plain.Goals as goal
+use Rattle.boundary_map.proofs.plain.column_plain.Goals as goal
 
 pub try_sets-requires-clause-from : goal.try_sets-requires-clause-from
 try_sets-requires-clause-from c =
