@@ -10,6 +10,6 @@ mod Limits
 mod Moved
 mod Named
 mod OverLimit
-mod PieceCounts
 mod Stops
 mod Surfaces
+mod Within

@@ -5,14 +5,13 @@ use Rattle.std.proofs.lemmas.Bool.{le-ltb, lt-ltb, ltb-false, ltb-true}
 use Rattle.std.proofs.lemmas.Option.{same_Some}
 use Rattle.page_surface.specs.Drawing.{Drawing}
 use Rattle.drawing.specs.Fingers.{replayed}
-use Rattle.drawing.specs.Pieces.{inner_pieces}
 use Rattle.drawing.specs.Points.{generators}
 use Rattle.region_table.specs.Nice.{weight}
 use Rattle.curve_paths.specs.declared.twist.TooLong.{TooLong}
 use Rattle.nice_plan.specs.Strategy.{strategy, within_limit}
 use Rattle.obd_doc.specs.declared.book.Book.{Book}
 use Rattle.obd_doc.specs.declared.limits.Limits.{Limits}
-use Rattle.obd_cli.specs.Run.{AnswersDrawing, AnswersWords, Certifies, drawing_of, drawing_status, has_text, most_pieces, not_small, over_budget, over_limit, stopped, stopped_last, words_status}
+use Rattle.obd_cli.specs.Run.{AnswersDrawing, AnswersWords, Certifies, drawing_of, drawing_status, has_text, over_budget, over_limit, stopped, stopped_last, words_status}
 use Rattle.obd_cli.specs.Steps.{last_of}
 use Rattle.obd_cli.specs.declared.status.Answer.{Answer}
 use Rattle.obd_cli.specs.declared.status.Status.TheVariants as status
@@ -26,17 +25,9 @@ module _ (limit : ℕ) (last : Drawing) where
   pub stopped_over : limit < length (generators last) → stopped_last limit last ≡ Some (over_limit (limit + 1))
   stopped_over more = let above : nat_lt limit (length (generators last)) ≡ true = lt-ltb limit (length (generators last)) more in rw above refl
 
-  module _ (few : length (generators last) ≤ limit) where
-    within : nat_lt limit (length (generators last)) ≡ false
-    within = le-ltb limit (length (generators last)) few
-
-    -- too many pieces,
-    pub stopped_large : most_pieces < length (inner_pieces last) → stopped_last limit last ≡ Some (not_small (length (inner_pieces last)))
-    stopped_large more = let above : nat_lt most_pieces (length (inner_pieces last)) ≡ true = lt-ltb most_pieces (length (inner_pieces last)) more in rw (within, above) refl
-
-    -- or neither
-    pub not_stopped : length (inner_pieces last) ≤ most_pieces → stopped_last limit last ≡ None
-    not_stopped small = let above : nat_lt most_pieces (length (inner_pieces last)) ≡ false = le-ltb most_pieces (length (inner_pieces last)) small in rw (within, above) refl
+  -- or not
+  pub not_stopped : length (generators last) ≤ limit → stopped_last limit last ≡ None
+  not_stopped few = let within : nat_lt limit (length (generators last)) ≡ false = le-ltb limit (length (generators last)) few in rw within refl
 
 module _ (limits : Limits) (d : Drawing) where
   -- too many fingers,
@@ -47,35 +38,31 @@ module _ (limits : Limits) (d : Drawing) where
   pub stopped_later : length (strategy d) ≤ limits.moves → stopped limits d ≡ stopped_last limits.generators (last_of d)
   stopped_later few = let within : nat_lt limits.moves (length (strategy d)) ≡ false = le-ltb limits.moves (length (strategy d)) few in rw within refl
 
--- what each of three tests gives
-module _ (x y z other : Answer) (first : x.status ≡ status.MoveBudget) (second : y.status ≡ status.GeneratorLimit) (third : z.status ≡ status.Refused) where
+-- what each of two tests gives
+module _ (x y other : Answer) (first : x.status ≡ status.MoveBudget) (second : y.status ≡ status.GeneratorLimit) where
   -- with MoveBudget the first did
-  first_gives : (b c e : Bool) → cond b (Some x) (cond c (Some y) (cond e (Some z) None)) ≡ Some other → other.status ≡ status.MoveBudget → (b ≡ true) × (other ≡ x)
-  first_gives true c e is ends = (refl, sym (same_Some x other is))
-  first_gives false true e is ends = absurd (let bad = sym second ∙ (ap (λ (a : Answer). a.status) (same_Some y other is) ∙ ends) in cc)
-  first_gives false false true is ends = absurd (let bad = sym third ∙ (ap (λ (a : Answer). a.status) (same_Some z other is) ∙ ends) in cc)
-  first_gives false false false is ends = absurd (let bad = is in cc)
+  first_gives : (b c : Bool) → cond b (Some x) (cond c (Some y) None) ≡ Some other → other.status ≡ status.MoveBudget → (b ≡ true) × (other ≡ x)
+  first_gives true c is ends = (refl, sym (same_Some x other is))
+  first_gives false true is ends = absurd (let bad = sym second ∙ (ap (λ (a : Answer). a.status) (same_Some y other is) ∙ ends) in cc)
+  first_gives false false is ends = absurd (let bad = is in cc)
 
   -- with GeneratorLimit the second did
-  second_gives : (b c e : Bool) → cond b (Some x) (cond c (Some y) (cond e (Some z) None)) ≡ Some other → other.status ≡ status.GeneratorLimit → (b ≡ false) × (c ≡ true) × (other ≡ y)
-  second_gives true c e is ends = absurd (let bad = sym first ∙ (ap (λ (a : Answer). a.status) (same_Some x other is) ∙ ends) in cc)
-  second_gives false true e is ends = (refl, refl, sym (same_Some y other is))
-  second_gives false false true is ends = absurd (let bad = sym third ∙ (ap (λ (a : Answer). a.status) (same_Some z other is) ∙ ends) in cc)
-  second_gives false false false is ends = absurd (let bad = is in cc)
+  second_gives : (b c : Bool) → cond b (Some x) (cond c (Some y) None) ≡ Some other → other.status ≡ status.GeneratorLimit → (b ≡ false) × (c ≡ true) × (other ≡ y)
+  second_gives true c is ends = absurd (let bad = sym first ∙ (ap (λ (a : Answer). a.status) (same_Some x other is) ∙ ends) in cc)
+  second_gives false true is ends = (refl, refl, sym (same_Some y other is))
+  second_gives false false is ends = absurd (let bad = is in cc)
 
   -- and none gives Done
-  none_gives : (b c e : Bool) → cond b (Some x) (cond c (Some y) (cond e (Some z) None)) ≡ Some other → other.status ≡ status.Done → ⊥
-  none_gives true c e is ends = let bad = sym first ∙ (ap (λ (a : Answer). a.status) (same_Some x other is) ∙ ends) in cc
-  none_gives false true e is ends = let bad = sym second ∙ (ap (λ (a : Answer). a.status) (same_Some y other is) ∙ ends) in cc
-  none_gives false false true is ends = let bad = sym third ∙ (ap (λ (a : Answer). a.status) (same_Some z other is) ∙ ends) in cc
-  none_gives false false false is ends = let bad = is in cc
+  none_gives : (b c : Bool) → cond b (Some x) (cond c (Some y) None) ≡ Some other → other.status ≡ status.Done → ⊥
+  none_gives true c is ends = let bad = sym first ∙ (ap (λ (a : Answer). a.status) (same_Some x other is) ∙ ends) in cc
+  none_gives false true is ends = let bad = sym second ∙ (ap (λ (a : Answer). a.status) (same_Some y other is) ∙ ends) in cc
+  none_gives false false is ends = let bad = is in cc
 
 -- where no test holds
-module _ (x y z : Answer) where
-  none_holds : (b c e : Bool) → cond b (Some x) (cond c (Some y) (cond e (Some z) None)) ≡ None → (b ≡ false) × (c ≡ false)
-  none_holds true c e is = absurd (let bad = is in cc)
-  none_holds false true e is = absurd (let bad = is in cc)
-  none_holds false false e is = (refl, refl)
+none_holds : (x y : Answer) (b c : Bool) → cond b (Some x) (cond c (Some y) None) ≡ None → (b ≡ false) × (c ≡ false)
+none_holds x y true c is = absurd (let bad = is in cc)
+none_holds x y false true is = absurd (let bad = is in cc)
+none_holds x y false false is = (refl, refl)
 
 module _ (limits : Limits) (d : Drawing) where
   -- the tests
@@ -85,35 +72,33 @@ module _ (limits : Limits) (d : Drawing) where
   abbrev many : Bool
   many = nat_lt limits.generators (length (generators (last_of d)))
 
-  abbrev large : Bool
-  large = nat_lt most_pieces (length (inner_pieces (last_of d)))
-
-  abbrev large_answer : Answer
-  large_answer = not_small (length (inner_pieces (last_of d)))
-
-  -- a drawing that nothing stops keeps both limits
+  -- a drawing that nothing stops keeps both limits,
   pub passed : stopped limits d ≡ None → (length (strategy d) ≤ limits.moves) × (length (generators (last_of d)) ≤ limits.generators)
   passed is =
-      let (short, few) = none_holds (budget_of limits d) (over_limit (limits.generators + 1)) large_answer long many large is in
+      let (short, few) = none_holds (budget_of limits d) (over_limit (limits.generators + 1)) long many is in
       (omega (arith, ltb-false limits.moves (length (strategy d)) short), omega (arith, ltb-false limits.generators (length (generators (last_of d))) few))
+
+  -- and one that keeps both is stopped by nothing
+  pub nothing_stops : length (strategy d) ≤ limits.moves → length (generators (last_of d)) ≤ limits.generators → stopped limits d ≡ None
+  nothing_stops short few = stopped_later limits d short ∙ not_stopped limits.generators (last_of d) few
 
   module _ (other : Answer) (is : stopped limits d ≡ Some other) where
     -- MoveBudget answers too many fingers
     pub stopped_budget : other.status ≡ status.MoveBudget → (limits.moves < length (strategy d)) × (other ≡ over_budget limits.moves (weight (replayed d (within_limit limits.moves d))))
     stopped_budget ends =
-        let (more, same) = first_gives (budget_of limits d) (over_limit (limits.generators + 1)) large_answer other refl refl refl long many large is ends in
+        let (more, same) = first_gives (budget_of limits d) (over_limit (limits.generators + 1)) other refl refl long many is ends in
         (ltb-true limits.moves (length (strategy d)) more, same)
 
     -- GeneratorLimit answers too many generators
     pub stopped_limited : other.status ≡ status.GeneratorLimit
         → (length (strategy d) ≤ limits.moves) × (limits.generators < length (generators (last_of d))) × (other ≡ over_limit (limits.generators + 1))
     stopped_limited ends =
-        let (short, more, same) = second_gives (budget_of limits d) (over_limit (limits.generators + 1)) large_answer other refl refl refl long many large is ends in
+        let (short, more, same) = second_gives (budget_of limits d) (over_limit (limits.generators + 1)) other refl refl long many is ends in
         (omega (arith, ltb-false limits.moves (length (strategy d)) short), ltb-true limits.generators (length (generators (last_of d))) more, same)
 
     -- and none answers with Done
     pub never_done : other.status ≡ status.Done → ⊥
-    never_done ends = none_gives (budget_of limits d) (over_limit (limits.generators + 1)) large_answer other refl refl refl long many large is ends
+    never_done ends = none_gives (budget_of limits d) (over_limit (limits.generators + 1)) other refl refl long many is ends
 
 -- an answer to a drawing with Done has a certificate
 pub drawing_done : (book : Book) (d : Drawing) (other : Option Answer) (answer : Answer) → stopped book.limits d ≡ other → AnswersDrawing book other answer → answer.status ≡ status.Done → Certifies book answer
@@ -147,7 +132,7 @@ cond_settled false x y a b = b
 
 stopped_settled : (limits : Limits) (d : Drawing) → has_text (drawing_status (stopped limits d)) ≡ true
 stopped_settled limits d = cond_settled (nat_lt limits.moves (length (strategy d))) _ _ refl
-    (cond_settled (nat_lt limits.generators (length (generators (last_of d)))) _ _ refl (cond_settled (nat_lt most_pieces (length (inner_pieces (last_of d)))) _ _ refl refl))
+    (cond_settled (nat_lt limits.generators (length (generators (last_of d)))) _ _ refl refl)
 
 pub status_settled : (book : Book) (found : Result (List (List ℕ)) TooLong) → has_text (words_status book found) ≡ true
 status_settled book (Err long) = refl
@@ -166,5 +151,4 @@ words_no_usage book (Err long) is = let bad = is in cc
 words_no_usage book (Ok words) is =
     let d = drawing_of book words in
     cond_no_usage (nat_lt book.limits.moves (length (strategy d))) _ _ (λ is. let bad = is in cc)
-    (cond_no_usage (nat_lt book.limits.generators (length (generators (last_of d)))) _ _ (λ is. let bad = is in cc)
-    (cond_no_usage (nat_lt most_pieces (length (inner_pieces (last_of d)))) _ _ (λ is. let bad = is in cc) (λ is. let bad = is in cc))) is
+    (cond_no_usage (nat_lt book.limits.generators (length (generators (last_of d)))) _ _ (λ is. let bad = is in cc) (λ is. let bad = is in cc)) is

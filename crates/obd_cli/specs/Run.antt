@@ -6,7 +6,6 @@ use Rattle.obd_base.specs.Streams.{TookPrefix}
 use Rattle.page_surface.specs.Drawing.{Drawing}
 use Rattle.curve_paths.specs.declared.twist.TooLong.{TooLong}
 use Rattle.drawing.specs.Fingers.{replayed}
-use Rattle.drawing.specs.Pieces.{inner_pieces}
 use Rattle.drawing.specs.Points.{generators}
 use Rattle.drawing.specs.Tight.{tight_drawing}
 use Rattle.region_table.specs.Nice.{weight}
@@ -65,27 +64,18 @@ pub record Certifies (book : Book) (answer : Answer) : Type 0 where
   pub belongs : IsCertificateOf book certificate
   pub text : answer.text ≡ certificate_text certificate
 
--- the greatest number of pieces that aren't base of a last drawing that `decide` takes
-abbrev pub most_pieces : ℕ
-most_pieces = 16
-
 -- the answers in place of a certificate: to more fingers than a limit, by the limit and the weight that is left,
 abbrev pub over_budget : ℕ → ℕ → Answer
 over_budget limit left = record { status = status.MoveBudget; text = budget_line limit left }
 
--- to more generators than a limit, by the limit and one,
+-- and to more generators than a limit, by the limit and one
 abbrev pub over_limit : ℕ → Answer
 over_limit over = record { status = status.GeneratorLimit; text = limit_line over }
-
--- and to too many pieces that aren't base
-abbrev pub not_small : ℕ → Answer
-not_small pieces = refused_with (refused_line 92 (codes "NotSmall") [] (pieces ∷ []))
 
 -- what stands in place of the certificate of a last drawing, if something does
 abbrev pub stopped_last : ℕ → Drawing → Option Answer
 stopped_last limit last =
-    if nat_lt limit (length (generators last)) then Some (over_limit (limit + 1)) else
-    if nat_lt most_pieces (length (inner_pieces last)) then Some (not_small (length (inner_pieces last))) else None
+    if nat_lt limit (length (generators last)) then Some (over_limit (limit + 1)) else None
 
 -- and of a first drawing
 abbrev pub stopped : Limits → Drawing → Option Answer
@@ -254,6 +244,15 @@ HasBookStatus command.Page book None result = result ≡ (page_answer book (book
 -- the book of bytes that aren't too many
 abbrev pub book_within : List ℕ → Option Book
 book_within bytes = if nat_lt most_bytes (length bytes) then None else book_read bytes
+
+-- the book has one polygon and no slide, its words aren't too long, and its drawings keep both limits
+pub record IsWithin (book : Book) : Type 0 where
+  pub one : length book.page ≡ 1
+  pub no_slides : book.slides ≡ []
+  pub words : List (List ℕ)
+  pub words_are : book_words book ≡ Ok words
+  pub moves : length (strategy (drawing_of book words)) ≤ book.limits.moves
+  pub generators_few : length (generators (last_of (drawing_of book words))) ≤ book.limits.generators
 
 -- the status of the answer to what was read
 abbrev pub HasReadStatus : Command → Option Book → Status → Type 0

@@ -170,8 +170,8 @@ fn certificate_of(
     })
 }
 
-/// The certificate of a book without slides, from its first drawing, the fingers and the last drawing, which has at most 16
-/// pieces that aren't base, with the table of regions and the generators of that one. Its cost is that of `complex_of`, and linear in the text that it makes.
+/// The certificate of a book without slides, from its first drawing, the fingers and the last drawing, with the table of
+/// regions and the generators of that one. Its cost is that of `complex_of`, and linear in the text that it makes.
 pub(crate) fn certify(
     alloc: Global,
     book: &Book,
@@ -189,7 +189,6 @@ pub(crate) fn certify(
     requires table { IsTableOf moved.last regions.now }
     requires generators { generators.now ≡ generators_of moved.last }
     requires within { length generators.now ≤ book.now.limits.generators }
-    requires few { length regions.now.inner ≤ 16 }
     ensures { IfOk result (IsCertificateOf book.now) }
 {
     let complex = complex_of(alloc, &moved.last, regions, generators)?;

@@ -2,9 +2,10 @@
 ghost use Rattle.std.specs.Prelude.{◌≡◌, ℕ, ◌≤◌, length, IfOk};
 ghost use Rattle.drawing.specs.Points.{generators as generators_of};
 ghost use Rattle.obd_cli.specs.Steps.{IsComplexOf};
+ghost use Rattle.region_table.specs.Nice.{IsNice};
 ghost use Rattle.region_table.specs.Table.{IsTableOf};
 
-use boundary_map::columns_plain;
+use boundary_map::columns;
 use generator_list::Generators;
 use hkm_diagram::Diagram;
 use mod2_rank::{Outcome, eliminate};
@@ -19,8 +20,8 @@ pub(crate) struct Complex {
     pub(crate) outcome: Outcome,
 }
 
-/// The complex of a drawing with at most 16 pieces that aren't base, by its table of regions and its generators. The
-/// columns are made by trying every set of these pieces. Its cost is that of `columns_plain` and of `eliminate`.
+/// The complex of a nice drawing, by its table of regions and its generators. Its cost is that of `columns` and of
+/// `eliminate`.
 pub(crate) fn complex_of(
     alloc: Global,
     diagram: &Diagram,
@@ -29,10 +30,10 @@ pub(crate) fn complex_of(
 ) -> Result<Complex, NoMemory>
     requires table { IsTableOf diagram.now regions.now }
     requires generators { generators.now ≡ generators_of diagram.now }
-    requires few { length regions.now.inner ≤ 16 }
+    requires nice { IsNice diagram.now }
     ensures { IfOk result (λ complex. (limit : ℕ) → length generators.now ≤ limit → IsComplexOf diagram.now limit complex) }
 {
-    let columns = columns_plain(alloc, diagram, regions, generators)?;
+    let columns = columns(alloc, diagram, regions, generators)?;
     let rows = generators.count();
     let outcome = eliminate(alloc, columns.as_slice(), rows)?;
     Ok(Complex {

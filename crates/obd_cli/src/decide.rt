@@ -7,7 +7,7 @@ ghost use Rattle.witness_check.specs.Belonging.{IsFirstDrawing};
 ghost use Rattle.witness_check.specs.Text.{certificate_text};
 ghost use Rattle.obd_doc.specs.Document.{IsBook};
 ghost use Rattle.obd_cli.specs.Opened.{open_book};
-ghost use Rattle.obd_cli.specs.Run.{AnswersDrawing, AnswersWords, has_text, not_small, over_budget, over_limit, stopped, stopped_last};
+ghost use Rattle.obd_cli.specs.Run.{AnswersDrawing, AnswersWords, has_text, over_budget, over_limit, stopped, stopped_last};
 ghost use Rattle.obd_cli.specs.Steps.{AreDrawings, IsSurfaceOf, shown};
 ghost use Rattle.obd_cli.specs.Words.{book_words as words_of_book};
 
@@ -15,7 +15,7 @@ use crate::certify::certify;
 use crate::drawn::drawn;
 use crate::moves::{Moved, moved_to_nice};
 use crate::page::too_long;
-use crate::refused::{put_limit, put_refused};
+use crate::refused::put_limit;
 use crate::status::{Answer, Status};
 use crate::surface::{Surface, surface_of};
 use drawing::Drawing;
@@ -27,8 +27,6 @@ use obd_doc::Book;
 use region_table::Regions;
 use std::alloc::Global;
 use witness_check::{Certificate, print, put_line};
-
-const MOST_PIECES: usize = 16;
 
 // The answer to a book whose strategy takes more fingers than its limit, by the limit and the weight that is left.
 fn over_budget(alloc: Global, limit: u32, weight: u64) -> Result<Answer, NoMemory>
@@ -50,18 +48,6 @@ fn over_limit(alloc: Global, over: u32) -> Result<Answer, NoMemory>
     put_line(&mut text, "generator-limit", &[over])?;
     Ok(Answer {
         status: Status::GeneratorLimit,
-        text,
-    })
-}
-
-// The answer to a book whose last drawing has so many pieces that aren't base.
-fn not_small(alloc: Global, pieces: u64) -> Result<Answer, NoMemory>
-    ensures { IfOk result (λ answer. answer ≡ not_small pieces) }
-{
-    let mut text = Text::new(alloc);
-    put_refused(&mut text, 92, "NotSmall", &[], &[pieces])?;
-    Ok(Answer {
-        status: Status::Refused,
         text,
     })
 }
@@ -96,10 +82,6 @@ fn listed(
     requires within { length generators.now ≤ book.now.limits.generators }
     ensures { IfOk result (AnswersDrawing book.now (stopped_last book.now.limits.generators moved.last)) }
 {
-    let pieces = regions.inner().len();
-    if pieces > MOST_PIECES {
-        return not_small(alloc, pieces as u64);
-    }
     let certificate = certify(alloc, book, surface, moved, regions, generators)?;
     certified(alloc, &certificate)
 }
@@ -152,9 +134,9 @@ fn answer_to_drawing(
 }
 
 /// The answer of `decide` to a book with one polygon and no slide: its certificate, where the strategy takes no more
-/// fingers and the last drawing has no more generators than the book's limits, and at most 16 pieces that aren't base; else
-/// the line of the first of these that fails, or before them TooLong as for `page`. The cost is that of
-/// `monodromy::drawn`, of `Regions::of`, of `nice_plan::make_nice`, of `list`, of `columns_plain` and of `eliminate`.
+/// fingers and the last drawing has no more generators than the book's limits; else the line of the first of these that
+/// fails, or before them TooLong as for `page`. The cost is that of `monodromy::drawn`, of `Regions::of`, of
+/// `nice_plan::make_nice`, of `list`, of `columns` and of `eliminate`.
 pub(crate) fn decided(alloc: Global, book: &Book) -> Result<Answer, NoMemory>
     requires valid { IsBook book.now }
     requires one { length book.now.page ≡ 1 }

@@ -3,9 +3,10 @@ ghost use Rattle.std.specs.Prelude.{◌≡◌, ◌≢◌, ◌⊎◌, ◌+◌, �
 ghost use Rattle.std.specs.Io.KnownBytes.{Appends};
 ghost use Rattle.obd_base.specs.Causes.{Rose};
 ghost use Rattle.obd_base.specs.Streams.{TookPrefix};
-ghost use Rattle.obd_doc.specs.Document.{IsBook};
+ghost use Rattle.obd_doc.specs.Document.{IsBook, book_read};
+ghost use Rattle.obd_doc.specs.declared.book.Book.{Book as Read};
 ghost use Rattle.obd_cli.specs.Refused.{doc_line, refused_line};
-ghost use Rattle.obd_cli.specs.Run.{AnswersAll, AnswersBook, AnswersBytes, AnswersBuilt, AnswersLong, CutShort, Finished, GoesOverBudget, GoesOverLimit, HasStatus, IsFault, Limited, Owes, Told, command_of, has_text, not_built, refused_with, too_long, usage};
+ghost use Rattle.obd_cli.specs.Run.{AnswersAll, AnswersBook, AnswersBytes, AnswersBuilt, AnswersLong, CutShort, Finished, GoesOverBudget, GoesOverLimit, HasStatus, IsFault, IsWithin, Limited, Owes, Told, command_of, has_text, most_bytes, not_built, refused_with, too_long, usage};
 ghost use Rattle.obd_cli.specs.declared.status.Command.{Command as Which};
 
 use crate::decide::decided;
@@ -223,13 +224,13 @@ fn run_words<S: Source, K: Sink>(
 
 /// One run of the program. The words after the program's own name decide the command, which for now is a single
 /// word. Both commands read a document from the source: `decide` writes the certificate of its open book, where the
-/// strategy takes no more fingers and the last drawing has no more generators than the book's limits, and at most 16 pieces
-/// that aren't base, or a line that tells which of these fails; and `page` writes the seams, the basis and the words of its strands.
+/// strategy takes no more fingers and the last drawing has no more generators than the book's limits, or a line that tells
+/// which of these fails; and `page` writes the seams, the basis and the words of its strands.
 ///
 /// The whole text is built before the first write. Where a device fails, its fault takes the place of the
 /// status whose text was owed; `NoMemory` may come at any step that takes memory, before the first write.
 /// Linear in the bytes that are read, but for the order of the fields of a JSON object. With `page` the cost is that of
-/// `monodromy::drawn` besides, and with `decide` also that of `nice_plan::make_nice`, of `columns_plain` and of `eliminate`.
+/// `monodromy::drawn` besides, and with `decide` also that of `nice_plan::make_nice`, of `boundary_map::columns` and of `eliminate`.
 pub fn run<S: Source, K: Sink>(
     alloc: Global,
     words: &[String],
@@ -269,10 +270,15 @@ pub fn run<S: Source, K: Sink>(
 
     // For bytes that the source tells, the status is that of the answer to them, but for a fault or want of memory:
     // with `decide` it goes by the book's words and their drawing: MoveBudget exactly where the strategy takes more fingers
-    // than the limit, else GeneratorLimit exactly where the last drawing has more generators than the limit, else NotSmall where
-    // it has more than 16 pieces that aren't base, and else Done.
+    // than the limit, else GeneratorLimit exactly where the last drawing has more generators than the limit, and else Done.
     ensures complete { (bytes : List ℕ) (command : Which) → command_of (map string_bytes words.now) ≡ Some command
         → S.left source.old ≡ Some bytes → HasStatus command bytes result ⊎ IsFault result }
+    // So `decide` certifies each accepted book of one polygon without slides that keeps both limits, unless a device fails or
+    // memory is wanting.
+    ensures certified { (bytes : List ℕ) (book : Read) → command_of (map string_bytes words.now) ≡ Some Which.Decide
+        → S.left source.old ≡ Some bytes → length bytes ≤ most_bytes → book_read bytes ≡ Some book → IsWithin book
+        → (Rose (S.faults source.old) (S.faults source.new) → ⊥) → (Rose (K.faults sink.old) (K.faults sink.new) → ⊥)
+        → (result ≡ Status.Done) ⊎ (result ≡ Status.NoMemory) }
     ensures ended { has_text result ≡ true ⊎ IsFault result }
 {
     run_words(alloc, words, source, sink)

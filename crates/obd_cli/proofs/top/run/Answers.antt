@@ -1,6 +1,8 @@
 use Rattle.std.proofs.Common.{refl}
 use Rattle.obd_cli.proofs.Decides.{completed, finished_from_told, usage_told}
 use Rattle.obd_cli.proofs.Limits.{budget_from_told, limited_from_told}
+use Rattle.obd_cli.proofs.Within.{certified_within}
+use Rattle.obd_cli.specs.declared.status.Command.TheVariants as which
 use Rattle.obd_cli.proofs.top.run.Goals as goal
 
 pub returns-clause-done : goal.returns-clause-done
@@ -17,3 +19,8 @@ returns-clause-limited g c = λ limited. limited_from_told _ _ _ _ _ _ limited (
 
 pub returns-clause-budget : goal.returns-clause-budget
 returns-clause-budget g c = λ budget. budget_from_told _ _ _ _ _ _ budget (c.run_words.ensures.told (rw budget refl))
+
+pub returns-clause-certified : goal.returns-clause-certified
+returns-clause-certified g c = λ bytes book command tells few read within no_read_fault no_write_fault.
+    certified_within book within bytes few read _ (λ fault. no_read_fault (c.run_words.ensures.read_fault fault)) (λ fault. no_write_fault (c.run_words.ensures.write_fault fault).0)
+    (returns-clause-complete g c bytes which.Decide command tells)
