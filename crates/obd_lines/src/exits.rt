@@ -8,8 +8,8 @@ use obd_base::{Exit, SideNo};
 use page_surface::Polygon;
 use std::alloc::{AllocError, Global};
 
-// An exit: `3.0` is one by side 3 at place 0.
-fn exit_of(text: &str) -> Result<Exit, Stop> {
+/// An exit: `3.0` is one by side 3 at place 0.
+pub(crate) fn exit_of(text: &str) -> Result<Exit, Stop> {
     let Some((side, place)) = text.split_once('.') else {
         return Err(Stop::NotRead);
     };

@@ -16,8 +16,8 @@ fn number_of(text: &str) -> Result<(u32, &str), Stop> {
     }
 }
 
-// A finger: `0.2.3.2` pushes chord 2 of strand 0 into segment 2 of side 3.
-fn finger_of(text: &str) -> Result<Finger, Stop> {
+/// A finger: `0.2.3.2` pushes chord 2 of strand 0 into segment 2 of side 3.
+pub(crate) fn finger_of(text: &str) -> Result<Finger, Stop> {
     let (strand, rest) = number_of(text)?;
     let (chord, rest) = number_of(rest)?;
     let (side, rest) = number_of(rest)?;

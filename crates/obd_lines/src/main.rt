@@ -5,24 +5,30 @@
 //! A further row is one line of a file and one of the stored output. It costs no proof.
 #![tactic(auto)]
 
+mod carried;
 mod columns;
 mod curves;
+mod differentials;
 mod drawings;
 mod exits;
 mod fingers;
 mod generators;
+mod kept;
 mod monodromies;
 mod pages;
 mod paths;
 mod regions;
+mod same_tables;
 mod stop;
 mod words;
 
 use columns::columns_told;
 use curves::{curve_told, image_told};
+use differentials::differential_told;
 use drawings::{drawing_told, identity_told, tight_told};
 use fingers::fingers_told;
 use generators::generators_told;
+use kept::kept_told;
 use monodromies::monodromy_told;
 use pages::page_told;
 use regions::regions_told;
@@ -32,7 +38,7 @@ use stop::Stop;
 use words::word_told;
 
 /// The files of rows.
-const FILES: [&str; 12] = [
+const FILES: [&str; 14] = [
     "pages",
     "curves",
     "words",
@@ -41,9 +47,11 @@ const FILES: [&str; 12] = [
     "identities",
     "tight",
     "fingers",
+    "kept",
     "monodromies",
     "regions",
     "generators",
+    "differentials",
     "columns",
 ];
 
@@ -58,9 +66,11 @@ fn answer(alloc: Global, file: &str, given: &str) -> Result<String, Stop> {
         "identities" => identity_told(alloc, given),
         "tight" => tight_told(alloc, given),
         "fingers" => fingers_told(alloc, given),
+        "kept" => kept_told(alloc, given),
         "monodromies" => monodromy_told(alloc, given),
         "regions" => regions_told(alloc, given),
         "generators" => generators_told(alloc, given),
+        "differentials" => differential_told(alloc, given),
         "columns" => columns_told(alloc, given),
         _ => Err(Stop::NotRead),
     }

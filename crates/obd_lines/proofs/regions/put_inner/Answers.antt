@@ -1,4 +1,4 @@
-use Rattle.std.proofs.Common.{◌≡◌, subst}
+use Rattle.std.proofs.Common.{subst}
 use Rattle.obd_base.specs.Lists.{Mem}
 use Rattle.drawing.proofs.Lists.{mem_at}
 use Rattle.obd_lines.proofs.regions.put_inner.Goals as goal

@@ -1,4 +1,4 @@
-use Rattle.std.proofs.Common.{◌≡◌, ◌<◌, ◌≤◌, arith}
+use Rattle.std.proofs.Common.{arith}
 use Rattle.region_table.proofs.TableReads.{points_are, sides_are}
 use Rattle.obd_lines.proofs.regions.put_side.Goals as goal
 
