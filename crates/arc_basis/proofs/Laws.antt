@@ -1,163 +1,176 @@
--- What joining makes of a page of one polygon: that polygon, without a seam.
-use Rattle.std.proofs.Common.{◌≡◌, ℕ, ◌<◌, ◌≤◌, true, false, ltb, eqb, List, [], ◌∷◌, ◌++◌, map, length, get_or, Option, refl, sym, subst, ap, ◌∙◌, arith, inl, inr}
-use Rattle.std.proofs.lemmas.Bool.{ltb-false, eqb-false}
-use Rattle.std.proofs.lemmas.List.{append-nil, length-map}
-use Rattle.std.proofs.lemmas.List.Sums.{count_by-le-length}
-use Rattle.std.specs.List.{position_or_len}
-use Rattle.std.specs.Str.{bytes_eq}
-use Rattle.obd_base.specs.Lists.{Mem, below}
-use Rattle.obd_base.proofs.lists.Below.{mem_below}
+-- What the tables of a basis say: where each side of a label has gone, and which labels are seams.
+use Rattle.std.proofs.Common.{◌≡◌, ℕ, ◌-◌, ◌<◌, ◌≤◌, Bool, true, false, cond, eqb, List, [], ◌∷◌, length, get_or, Option, None, refl, sym, ap, ◌∙◌, inl, inr, arith, append-nil, ◌↔◌, ap₂, map, subst}
+use Rattle.std.specs.List.{All, count_by, position, position_or_len}
+use Rattle.std.proofs.lemmas.Bool.{cases_Bool, eq-eqb, eqb-true, false≢true}
+use Rattle.std.proofs.lemmas.List.{length-map}
+use Rattle.std.proofs.lemmas.List.Sums.{sum_by-cons}
+use Rattle.obd_base.proofs.lists.Below.{bit}
+use Rattle.obd_base.specs.Lists.{Mem}
 use Rattle.page_surface.specs.declared.page.SideLabel.{SideLabel}
-use Rattle.page_surface.specs.declared.refusal.PageRefusal.TheVariants.{TooManyArcs, DiskPage}
-use Rattle.page_surface.specs.Joining.{side, has_side, is_side, other_side, is_split, join_all, joined, polygon_of}
-use Rattle.page_surface.specs.Labels.{Label, all_sides, labels_of, side_labels, side_labels_of, with_labels}
-use Rattle.page_surface.specs.Page.{IsPage, arc_number, refusals}
+use Rattle.page_surface.specs.Joining.{Joined, has_side, is_side, joined, other_side, side, polygon_of}
+use Rattle.page_surface.specs.Labels.{Label, labels_of}
+use Rattle.page_surface.specs.Page.{IsPage}
 use Rattle.page_surface.specs.Polygon.{Pairs, Polygon, paired}
-use Rattle.obd_base.proofs.Options.{each_none, fails_where_none}
-use Rattle.page_surface.proofs.FewSides.{two_a_label}
-use Rattle.page_surface.proofs.Sides.{length-side_labels}
-use Rattle.arc_basis.specs.Basis.{label_count}
-use Rattle.arc_basis.specs.BasisTables.{AreAllFound, AreBasisTables, AreNamed, of_sides, side_table}
-use Rattle.arc_basis.proofs.LabelCounts.{each_once, first_occurrences, side_named, stands, twice_on_page}
-use Rattle.arc_basis.proofs.Paired.{sides_pair}
-use Rattle.arc_basis.proofs.Places.{any_counted}
-use Rattle.arc_basis.proofs.Tables.{length-side_table}
+use Rattle.arc_basis.specs.Basis.{joined_sides, label_count}
+use Rattle.arc_basis.specs.BasisTables.{AreAllFound, AreNamed, of_sides, side_table}
+use Rattle.arc_basis.proofs.LabelCounts.{stands}
+use Rattle.arc_basis.proofs.Places.{any_counted, found_place, mem_at, no_place}
+use Rattle.arc_basis.specs.SeamTables.{AreLeft, AreSeamTables}
+use Rattle.arc_basis.proofs.Rows.{itself, mem_had}
+use Rattle.arc_basis.proofs.OneItem.{counted}
+use Rattle.arc_basis.proofs.Tables.{length-side_table, read_table}
+use Rattle.arc_basis.proofs.Whole.{IsWhole, page_whole}
 
--- labels none of which is split join nothing
-none_joined : (labels : List ℕ) (polygons : List (List SideLabel)) → ((label : ℕ) → Mem label labels → is_split label polygons ≡ false)
-    → join_all labels polygons ≡ record { polygons = polygons; seams = [] }
-none_joined [] polygons h = refl
-none_joined (label ∷ labels) polygons h = rw (join_all, h label (inl refl)) (none_joined labels polygons (λ l m. h l (inr m)))
+-- a number is in a list or not
+pub in_or_not : (x : ℕ) (xs : List ℕ) → (b : Bool) × (b ≡ true → Mem x xs) × (b ≡ false → count_by (eqb x) xs ≡ 0)
+in_or_not x [] = (false, λ e. absurd (false≢true e), λ e. refl)
+in_or_not x (y ∷ xs) = elim (cases_Bool (eqb x y)) [
+  | inl t ↦ (true, λ e. inl (eqb-true x y t), λ e. absurd (false≢true (sym e)))
+  | inr f ↦ (let (b, g, h) = in_or_not x xs in (b, λ e. inr (g e), λ e. let z = sum_by-cons (λ z. bit (eqb x z)) y xs in let w = ap bit f in omega (arith, z, w, h e)))
+]
 
--- what is known of the sides of a page of one polygon
-pub record IsAlone (polygons : List (List Label)) (sides : List SideLabel) : Type 0 where
-  pub joined_is : joined polygons ≡ of_sides sides []
-  pub counted : label_count (of_sides sides []) ≡ length (labels_of polygons)
-  pub named : AreNamed sides (length (labels_of polygons))
-  pub both : (label occurrence : ℕ) → label < length (labels_of polygons) → occurrence ≤ 1 → has_side (side label occurrence) sides ≡ true
-  pub pairs : Pairs (polygon_of sides)
-  pub least : 2 ≤ length sides
-  pub most : length sides ≤ 16
+module _ (page : List (List Label)) (valid : IsPage page) where
+  whole : IsWhole page (joined_sides (joined page))
+  whole = page_whole page valid
 
-module _ (names : List Label) (page : IsPage (names ∷ [])) where
-  abbrev sides : List SideLabel
-  sides = side_labels [] names
+  -- what joining a page leaves
+  pub page_left : AreLeft (joined_sides (joined page)) (length (labels_of page)) (joined page).seams
+  page_left = record {
+    named = whole.named;
+    gone = λ label o m h. elim (cases_Bool (has_side (side label o) (joined_sides (joined page)))) [
+      | inr f ↦ f
+      | inl t ↦
+          let s = side label o in
+          let c = counted (is_side s) s (joined_sides (joined page)) (mem_had s (joined_sides (joined page)) t) (itself s) in
+          let d = counted (eqb label) label (joined page).seams m (eq-eqb label label refl) in
+          absurd (omega (arith, c, d, whole.once label o (whole.seam_named label m) h))
+    ];
+    there = λ label o l h no_seam.
+        let (b, g, z) = in_or_not label (joined page).seams in
+        any_counted (is_side (side label o)) (joined_sides (joined page)) (stands_once label o l h b no_seam g z);
+    others = λ s m.
+        let n = whole.named s m in
+        let c = counted (is_side s) s (joined_sides (joined page)) m (itself s) in
+        let here = whole.once s.label s.occurrence n.0 n.1 in
+        let there = whole.once s.label (1 - s.occurrence) n.0 (omega arith) in
+        any_counted (is_side (other_side s)) (joined_sides (joined page)) (omega (arith, c, here, there));
+  }
+    where
+      stands_once : (label o : ℕ) → label < length (labels_of page) → o ≤ 1 → (b : Bool) → (Mem label (joined page).seams → ⊥) → (b ≡ true → Mem label (joined page).seams)
+          → (b ≡ false → count_by (eqb label) (joined page).seams ≡ 0) → 1 ≤ stands label o (joined_sides (joined page))
+      stands_once label o l h true no_seam g z = absurd (no_seam (g refl))
+      stands_once label o l h false no_seam g z = let a = z refl in let b = whole.once label o l h in omega (arith, a, b)
 
+-- what is read in the tables of a basis
+module _ (sides : List SideLabel) (polygon : Polygon) (firsts seconds : List (Option ℕ)) (seams : List ℕ) (t : AreSeamTables sides polygon firsts seconds seams)
+    (now : Joined) (seen : of_sides sides seams ≡ now) where
   abbrev count : ℕ
-  count = length (labels_of (names ∷ []))
+  count = label_count (of_sides sides seams)
 
-  -- reading the one polygon is reading all
-  bare : names ++ [] ≡ names
-  bare = append-nil names
+  -- they are all sides that are seen
+  seen_sides : joined_sides now ≡ sides
+  seen_sides = ap joined_sides (sym seen) ∙ append-nil sides
 
-  -- each side of each label stands once
-  once : (label occurrence : ℕ) → label < count → occurrence ≤ 1 → stands label occurrence sides ≡ 1
-  once label occurrence l o = subst (λ (xs : List Label). stands label occurrence (side_labels [] xs) ≡ 1) bare (each_once (names ∷ []) page label occurrence l o)
+  -- one entry a label in each table
+  pub firsts_long : (xs : List (Option ℕ)) → xs ≡ firsts → length xs ≡ label_count now
+  firsts_long xs e = ap length (e ∙ t.firsts_are) ∙ (length-side_table sides count 0 ∙ ap label_count seen)
 
-  -- so both are there
-  both_there : (label occurrence : ℕ) → label < count → occurrence ≤ 1 → has_side (side label occurrence) sides ≡ true
-  both_there label occurrence l o = any_counted (is_side (side label occurrence)) sides (omega (arith, once label occurrence l o))
+  pub seconds_long : (xs : List (Option ℕ)) → xs ≡ seconds → length xs ≡ label_count now
+  seconds_long xs e = ap length (e ∙ t.seconds_are) ∙ (length-side_table sides count 1 ∙ ap label_count seen)
 
-  -- each side is one of a label
-  each_named : AreNamed sides count
-  each_named s m =
-      let (l, o) = side_named [] names s m in
-      (subst (λ (xs : List Label). s.label < length (with_labels [] xs)) (sym bare) l, o)
+  module _ (label occurrence : ℕ) (l : label < label_count now) (o : occurrence ≤ 1) where
+    within : label < count
+    within = subst (λ (j : Joined). label < label_count j) (sym seen) l
 
-  -- no label is split
-  not_split : (label : ℕ) → Mem label (below count) → is_split label (sides ∷ []) ≡ false
-  not_split label m =
-      let l = mem_below count label m in
-      rw (both_there label 0 l (omega arith), both_there label 1 l (omega arith)) refl
+    -- a side is found nowhere exactly where its label is a seam
+    none_for_seams : (position (is_side (side label occurrence)) sides ≡ None) ↔ Mem label seams
+    none_for_seams = (to, from)
+      where
+        from : Mem label seams → position (is_side (side label occurrence)) sides ≡ None
+        from m = no_place (is_side (side label occurrence)) sides (t.left.gone label occurrence m o)
 
-  -- the sides that are left, read one after another, are all sides
-  counted_there : label_count (of_sides sides []) ≡ count
-  counted_there =
-      rw (append-nil sides, bare) (omega (arith, first_occurrences [] names))
+        to : position (is_side (side label occurrence)) sides ≡ None → Mem label seams
+        to e = go (in_or_not label seams)
+          where
+            nowhere : (Mem label seams → ⊥) → ⊥
+            nowhere no_seam =
+                let found = found_place (is_side (side label occurrence)) sides (t.left.there label occurrence within o no_seam) in
+                absurd (let bad = sym found ∙ e in cc)
 
-  -- a page has 1 to 8 arcs
-  some_arc : 1 ≤ count
-  some_arc =
-      let rules = each_none (refusals (names ∷ [])) page in
-      let none = eqb-false (arc_number (names ∷ [])) 0 (fails_where_none (eqb (arc_number (names ∷ [])) 0) DiskPage rules.1.1.1.1.1.1.1.0) in
-      omega (arith, none)
+            none_in : (xs : List ℕ) → count_by (eqb label) xs ≡ 0 → Mem label xs → ⊥
+            none_in xs z m = let c = counted (eqb label) label xs m (eq-eqb label label refl) in omega (arith, c, z)
 
-  few_arcs : count ≤ 8
-  few_arcs =
-      let rules = each_none (refusals (names ∷ [])) page in
-      let few = ltb-false 8 (arc_number (names ∷ [])) (fails_where_none (ltb 8 (arc_number (names ∷ []))) (TooManyArcs (arc_number (names ∷ []))) rules.1.1.1.1.1.1.0) in
-      omega (arith, few)
+            go : ((b : Bool) × (b ≡ true → Mem label seams) × (b ≡ false → count_by (eqb label) seams ≡ 0)) → Mem label seams
+            go (true, g, z) = g refl
+            go (false, g, z) = absurd (nowhere (λ m. none_in seams (z refl) m))
 
-  -- what joining makes of them
-  alone : IsAlone (names ∷ []) sides
-  alone =
-      let size : length (names ++ []) ≡ length sides = ap length bare ∙ sym (length-side_labels [] names) in
-      record {
-        joined_is = none_joined (below count) (sides ∷ []) not_split;
-        counted = counted_there;
-        named = each_named;
-        both = both_there;
-        pairs = sides_pair sides count each_named once;
-        least = omega (
-          arith,
-          size,
-          twice_on_page (names ∷ []) page 0 some_arc,
-          count_by-le-length (bytes_eq (get_or (labels_of (names ∷ [])) 0 [])) (all_sides (names ∷ [])),
-        );
-        most = omega (arith, size, few_arcs, two_a_label (names ∷ []) page);
-      }
+    module _ (xs ys : List (Option ℕ)) (x : xs ≡ firsts) (y : ys ≡ seconds) (r : Option ℕ) (read : r ≡ get_or (cond (eqb occurrence 0) xs ys) label None) where
+      in_tables : r ≡ position (is_side (side label occurrence)) sides
+      in_tables = read ∙ (ap₂ (λ (us vs : List (Option ℕ)). get_or (cond (eqb occurrence 0) us vs) label None) x y
+          ∙ read_table sides firsts seconds count t.firsts_are t.seconds_are label occurrence within o)
 
--- a page of one polygon stands alone
-pub one_polygon : (polygons : List (List Label)) → IsPage polygons → length polygons ≡ 1 → IsAlone polygons (get_or (side_labels_of [] polygons) 0 [])
-one_polygon [] page one = absurd (omega arith)
-one_polygon (p ∷ q ∷ polygons) page one = absurd (omega arith)
-one_polygon (names ∷ []) page one = alone names page
+      -- what is read is where the side stands
+      pub read_is : r ≡ position (is_side (side label occurrence)) (joined_sides now)
+      read_is = in_tables ∙ ap (position (is_side (side label occurrence))) (sym seen_sides)
 
--- so its basis has the labels of the page
-pub labels_counted : (polygons : List (List Label)) → IsPage polygons → length polygons ≡ 1 → label_count (joined polygons) ≡ length (labels_of polygons)
-labels_counted polygons page one =
-    let a = one_polygon polygons page one in
-    ap label_count a.joined_is ∙ a.counted
+      -- and nowhere exactly for a seam
+      pub none_is_seam : (r ≡ None) ↔ Mem label now.seams
+      none_is_seam =
+          let same : seams ≡ now.seams = ap (λ (j : Joined). j.seams) seen in (
+            λ none. subst (λ (xs : List ℕ). Mem label xs) same (none_for_seams.0 (sym in_tables ∙ none)),
+            λ m. in_tables ∙ none_for_seams.1 (subst (λ (xs : List ℕ). Mem label xs) (sym same) m),
+          )
 
--- the same of sides that are these
-pub alone_as : (polygons : List (List Label)) (were found : List SideLabel) → found ≡ were → IsAlone polygons were → IsAlone polygons found
-alone_as polygons were found e a = subst (λ (xs : List SideLabel). IsAlone polygons xs) (sym e) a
-
-module _ (polygons : List (List Label)) (sides : List SideLabel) (a : IsAlone polygons sides) (count : ℕ) (counted : count ≡ length (labels_of polygons)) where
-  -- each side is one of so many labels
+-- what is made from what joining leaves
+module _ (page : List (List Label)) (valid : IsPage page) (sides : List SideLabel) (s : sides ≡ joined_sides (joined page)) (count : ℕ) (e : count ≡ length (labels_of page)) where
+  -- each side is one of so many labels, and they are few
   pub named_by : AreNamed sides count
-  named_by = subst (λ (n : ℕ). AreNamed sides n) (sym counted) a.named
+  named_by = subst (λ n. AreNamed sides n) (sym e) (subst (λ xs. AreNamed xs (length (labels_of page))) (sym s) (page_left page valid).named)
 
-  module _ (firsts seconds : List (Option ℕ)) (f : firsts ≡ side_table sides count 0) (g : seconds ≡ side_table sides count 1) where
-    all_found : AreAllFound sides firsts seconds count
-    all_found = record {
-      named = named_by;
-      both = λ label occurrence l o. a.both label occurrence (omega (arith, counted)) o;
-      firsts_are = f;
-      seconds_are = g;
-    }
+  pub few_sides : length sides ≤ 16
+  few_sides = omega (arith, ap length s, (whole page valid).most)
 
-    -- the tables find all sides
-    pub found_by : AreAllFound sides firsts seconds (length firsts)
-    found_by = subst (λ (n : ℕ). AreAllFound sides firsts seconds n) (sym (ap length f ∙ length-side_table sides count 0)) all_found
+  -- the tables find the other side of each side
+  pub found_by : (firsts seconds : List (Option ℕ)) → firsts ≡ side_table sides count 0 → seconds ≡ side_table sides count 1 → AreAllFound sides firsts seconds (length firsts)
+  found_by firsts seconds f g = subst (λ n. AreAllFound sides firsts seconds n) (sym (ap length f ∙ length-side_table sides count 0)) (record {
+    named = named_by;
+    others = subst (λ xs. (x : SideLabel) → Mem x xs → has_side (other_side x) xs ≡ true) (sym s) (page_left page valid).others;
+    firsts_are = f;
+    seconds_are = g;
+  })
+
+  module _ (seams : List ℕ) (t : seams ≡ (joined page).seams) where
+    -- what is seen of them is what joining leaves
+    pub seen_joined : of_sides sides seams ≡ joined page
+    seen_joined = ap₂ of_sides s t ∙ sym (whole page valid).joined_is
 
     -- the tables of the basis
-    pub tables_made : (polygon : Polygon) (pairs seams : List ℕ) → polygon ≡ paired pairs
-        → pairs ≡ map (λ s. position_or_len (is_side (other_side s)) sides) sides → seams ≡ [] → AreBasisTables sides polygon firsts seconds seams
-    tables_made polygon pairs seams p q none = record {
+    pub tables_made : (polygon : Polygon) (pairs : List ℕ) (firsts seconds : List (Option ℕ)) → polygon ≡ paired pairs
+        → pairs ≡ map (λ x. position_or_len (is_side (other_side x)) sides) sides → firsts ≡ side_table sides count 0 → seconds ≡ side_table sides count 1
+        → AreSeamTables sides polygon firsts seconds seams
+    tables_made polygon pairs firsts seconds p q f g = record {
       polygon_is = p ∙ ap paired q;
-      found = subst (λ (n : ℕ). AreAllFound sides firsts seconds n) (counted ∙ (sym a.counted ∙ ap (λ (xs : List ℕ). label_count (of_sides sides xs)) (sym none))) all_found;
-      no_seam = none;
+      left = subst (λ n. AreLeft sides n seams) (sym e ∙ same) left_here;
+      firsts_are = f ∙ ap (λ n. side_table sides n 0) same;
+      seconds_are = g ∙ ap (λ n. side_table sides n 1) same;
     }
+      where
+        same : count ≡ label_count (of_sides sides seams)
+        same = e ∙ sym (ap label_count seen_joined ∙ (whole page valid).counted)
 
--- what is seen of a basis is what joining leaves
-pub seen_joined : (polygons : List (List Label)) (sides : List SideLabel) (seams : List ℕ) → IsAlone polygons sides → seams ≡ [] → of_sides sides seams ≡ joined polygons
-seen_joined polygons sides seams a none = ap (of_sides sides) none ∙ sym a.joined_is
+        left_here : AreLeft sides (length (labels_of page)) seams
+        left_here = subst (λ xs. AreLeft xs (length (labels_of page)) seams) (sym s) (subst (λ xs. AreLeft (joined_sides (joined page)) (length (labels_of page)) xs) (sym t) (page_left page valid))
 
--- the partners of these sides pair off
-pub pairs_off : (polygons : List (List Label)) (sides : List SideLabel) → IsAlone polygons sides → (pairs : List ℕ)
-    → pairs ≡ map (λ s. position_or_len (is_side (other_side s)) sides) sides
-    → (2 ≤ length pairs) × (length pairs ≤ 16) × Pairs (paired pairs)
-pairs_off polygons sides a pairs e =
-    let size : length pairs ≡ length sides = ap length e ∙ length-map sides (λ s. position_or_len (is_side (other_side s)) sides) in
-    (omega (arith, size, a.least), omega (arith, size, a.most), subst (λ (ps : List ℕ). Pairs (paired ps)) (sym e) a.pairs)
+  -- the partners pair off
+  pub pairs_off : (pairs : List ℕ) → pairs ≡ map (λ x. position_or_len (is_side (other_side x)) sides) sides → (2 ≤ length pairs) × (length pairs ≤ 16) × Pairs (paired pairs)
+  pairs_off pairs q =
+      let w = whole page valid in
+      let size : length pairs ≡ length (joined_sides (joined page)) = ap length q ∙ (length-map sides (λ x. position_or_len (is_side (other_side x)) sides) ∙ ap length s) in (
+        omega (arith, size, w.least),
+        omega (arith, size, w.most),
+        subst (λ ps. Pairs (paired ps)) (sym q) (subst (λ xs. Pairs (polygon_of xs)) (sym s) w.pairs),
+      )
+
+-- each seam is a label of the page
+pub seams_named : (page : List (List Label)) → IsPage page → (seams : List ℕ) → seams ≡ (joined page).seams → All (λ label. label < length (labels_of page)) seams
+seams_named page valid seams e = λ k d l. (whole page valid).seam_named (get_or seams k d) (subst (λ (xs : List ℕ). Mem (get_or seams k d) xs) e (mem_at seams k d l))

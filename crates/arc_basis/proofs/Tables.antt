@@ -1,16 +1,14 @@
 -- The tables of sides, as they are filled and as they are read.
-use Rattle.std.proofs.Common.{◌≡◌, ℕ, ◌+◌, ◌<◌, ◌≤◌, Bool, true, false, cond, eqb, ◌&&◌, not, List, [], ◌∷◌, ◌++◌, length, take, get_or, set, Option, Some, None, refl, sym, ap, ap₂, subst, ◌∙◌, arith, inl, inr}
+use Rattle.std.proofs.Common.{◌≡◌, ℕ, ◌+◌, ◌-◌, ◌<◌, ◌≤◌, Bool, true, false, cond, eqb, ◌&&◌, not, List, [], ◌∷◌, ◌++◌, length, take, get_or, set, Option, Some, None, refl, sym, ap, ap₂, ◌∙◌, arith, inl, inr}
 use Rattle.std.specs.List.{position, position_or_len}
 use Rattle.std.specs.Option.{IsSome, is_some, option_or}
 use Rattle.std.proofs.lemmas.Bool.{cases_eq, eq-eqb, ne_eqb, false≢true}
-use Rattle.std.proofs.lemmas.List.{append-nil, get_or-set_same, get_or-set_other, length-set, take_more, length-take-le, get_or_read, take_all}
+use Rattle.std.proofs.lemmas.List.{get_or-set_same, get_or-set_other, length-set, take_more, length-take-le, get_or_read, take_all}
 use Rattle.std.proofs.lemmas.List.FromFn.{get_or-map-range_with_len, length-map-range_with_len, fill_by_all}
 use Rattle.obd_base.specs.Lists.{Mem}
 use Rattle.page_surface.specs.declared.page.SideLabel.{SideLabel}
-use Rattle.page_surface.specs.Joining.{Joined, side, is_side}
-use Rattle.page_surface.specs.Polygon.{Polygon}
-use Rattle.arc_basis.specs.Basis.{joined_sides, label_count}
-use Rattle.arc_basis.specs.BasisTables.{AreAllFound, AreBasisTables, of_sides, side_table}
+use Rattle.page_surface.specs.Joining.{side, is_side, other_side}
+use Rattle.arc_basis.specs.BasisTables.{AreAllFound, side_table}
 use Rattle.arc_basis.proofs.Places.{found_place, place_push}
 
 -- or nothing
@@ -117,58 +115,24 @@ module _ (sides : List SideLabel) (occurrence count : ℕ) where
       (λ k h. so_far.found k h ∙ ap (position (is_side (side k occurrence))) (take_all number sides l))
 
 -- what the tables have is where the side stands
-pub read_table : (sides : List SideLabel) (firsts seconds : List (Option ℕ)) (count : ℕ) → AreAllFound sides firsts seconds count
+pub read_table : (sides : List SideLabel) (firsts seconds : List (Option ℕ)) (count : ℕ) → firsts ≡ side_table sides count 0 → seconds ≡ side_table sides count 1
     → (label occurrence : ℕ) → label < count → occurrence ≤ 1
     → get_or (cond (eqb occurrence 0) firsts seconds) label None ≡ position (is_side (side label occurrence)) sides
-read_table sides firsts seconds count found label occurrence l o =
+read_table sides firsts seconds count f g label occurrence l o =
     elim (cases_eq occurrence 0) [
-      | inl e ↦ rw (e, found.firsts_are) (get_or-map-range_with_len (λ k. position (is_side (side k 0)) sides) 0 count label label None l (omega arith))
+      | inl e ↦ rw (e, f) (get_or-map-range_with_len (λ k. position (is_side (side k 0)) sides) 0 count label label None l (omega arith))
       | inr n ↦
           let e : occurrence ≡ 1 = omega arith in
-          rw (e, found.seconds_are) (get_or-map-range_with_len (λ k. position (is_side (side k 1)) sides) 0 count label label None l (omega arith))
+          rw (e, g) (get_or-map-range_with_len (λ k. position (is_side (side k 1)) sides) 0 count label label None l (omega arith))
     ]
 
--- so it is there
-pub found_side : (sides : List SideLabel) (firsts seconds : List (Option ℕ)) (count : ℕ) → AreAllFound sides firsts seconds count
-    → (label occurrence : ℕ) → label < count → occurrence ≤ 1
-    → get_or (cond (eqb occurrence 0) firsts seconds) label None ≡ Some (position_or_len (is_side (side label occurrence)) sides)
-found_side sides firsts seconds count found label occurrence l o =
-    read_table sides firsts seconds count found label occurrence l o ∙ found_place (is_side (side label occurrence)) sides (found.both label occurrence l o)
+-- so the other side of a side is found
+pub found_side : (sides : List SideLabel) (firsts seconds : List (Option ℕ)) (count : ℕ) → AreAllFound sides firsts seconds count → (s : SideLabel) → Mem s sides
+    → get_or (cond (eqb (1 - s.occurrence) 0) firsts seconds) s.label None ≡ Some (position_or_len (is_side (other_side s)) sides)
+found_side sides firsts seconds count found s m =
+    read_table sides firsts seconds count found.firsts_are found.seconds_are s.label (1 - s.occurrence) (found.named s m).0 (omega arith)
+    ∙ found_place (is_side (other_side s)) sides (found.others s m)
 
 -- one entry a label
 pub length-side_table : (sides : List SideLabel) (count occurrence : ℕ) → length (side_table sides count occurrence) ≡ count
 length-side_table sides count occurrence = length-map-range_with_len (λ label. position (is_side (side label occurrence)) sides) 0 count
-
--- what is read in the tables of a basis
-module _ (sides : List SideLabel) (polygon : Polygon) (firsts seconds : List (Option ℕ)) (seams : List ℕ) (tables : AreBasisTables sides polygon firsts seconds seams)
-    (now : Joined) (seen : of_sides sides seams ≡ now) where
-  -- they are all sides that are seen
-  seen_sides : joined_sides now ≡ sides
-  seen_sides = ap joined_sides (sym seen) ∙ append-nil sides
-
-  -- one entry a label in each table
-  pub firsts_long : (xs : List (Option ℕ)) → xs ≡ firsts → length xs ≡ label_count now
-  firsts_long xs e = ap length (e ∙ tables.found.firsts_are) ∙ (length-side_table sides (label_count (of_sides sides seams)) 0 ∙ ap label_count seen)
-
-  pub seconds_long : (xs : List (Option ℕ)) → xs ≡ seconds → length xs ≡ label_count now
-  seconds_long xs e = ap length (e ∙ tables.found.seconds_are) ∙ (length-side_table sides (label_count (of_sides sides seams)) 1 ∙ ap label_count seen)
-
-  module _ (label occurrence : ℕ) (l : label < label_count now) (o : occurrence ≤ 1) (xs ys : List (Option ℕ)) (x : xs ≡ firsts) (y : ys ≡ seconds)
-      (r : Option ℕ) (read : r ≡ get_or (cond (eqb occurrence 0) xs ys) label None) where
-    in_tables : r ≡ get_or (cond (eqb occurrence 0) firsts seconds) label None
-    in_tables = read ∙ ap₂ (λ (us vs : List (Option ℕ)). get_or (cond (eqb occurrence 0) us vs) label None) x y
-
-    within : label < label_count (of_sides sides seams)
-    within = subst (λ (j : Joined). label < label_count j) (sym seen) l
-
-    -- what is read is where the side stands
-    pub read_is : r ≡ position (is_side (side label occurrence)) (joined_sides now)
-    read_is = in_tables ∙ (read_table sides firsts seconds (label_count (of_sides sides seams)) tables.found label occurrence within o
-        ∙ ap (position (is_side (side label occurrence))) (sym seen_sides))
-
-    -- it is never wanting, and there is no seam
-    pub none_is_seam : (r ≡ None → Mem label now.seams) × (Mem label now.seams → r ≡ None)
-    none_is_seam =
-        let there = in_tables ∙ found_side sides firsts seconds (label_count (of_sides sides seams)) tables.found label occurrence within o in
-        let no_seams : now.seams ≡ [] = ap (λ (j : Joined). j.seams) (sym seen) ∙ tables.no_seam in
-        (λ none. absurd (let bad = sym none ∙ there in cc), λ m. absurd (subst (λ (xs : List ℕ). Mem label xs) no_seams m))

@@ -1,18 +1,19 @@
 // The basis of a page, and how a page is joined to it.
-ghost use Rattle.std.specs.Prelude.{◌≡◌, ◌<◌, ◌≤◌, ◌↔◌, [], length, position, None, IfOk};
+ghost use Rattle.std.specs.Prelude.{◌≡◌, ◌<◌, ◌≤◌, ◌↔◌, length, position, None, IfOk};
 ghost use Rattle.obd_base.specs.Lists.{Mem};
 ghost use Rattle.page_surface.specs.Joining.{side, is_side, joined};
 ghost use Rattle.arc_basis.specs.Basis.{joined_sides, joined_polygon, label_count};
 
-use crate::sides::{partners, polygon_sides, side_in, side_table};
+use crate::joining::{Whole, join_polygons};
+use crate::sides::{partners, side_in, side_table};
 use obd_base::{Items, LabelNo, NoMemory, SideNo};
 use page_surface::{Page, Polygon, SideLabel};
 use std::alloc::Global;
 use std::marker::Model;
 
 /// The basis of arcs of a page. Contracts see it as what joining leaves: the polygons, each the list of its
-/// sides by label and occurrence, and the seams. Its type keeps that one polygon is left, and that each label
-/// has both of its sides on it; for now there is no seam.
+/// sides by label and occurrence, and the seams. Its type keeps that one polygon is left, on which each label
+/// has both of its sides, but a seam has none.
 pub struct Basis {
     sides: Items<SideLabel>,
     polygon: Polygon,
@@ -36,24 +37,24 @@ impl Drop for Basis {
 
 impl Model for Basis {
     ghost use Rattle.page_surface.specs.Joining.{Joined};
-    ghost use Rattle.arc_basis.specs.BasisTables.{AreBasisTables, of_sides};
+    ghost use Rattle.arc_basis.specs.BasisTables.{of_sides};
+    ghost use Rattle.arc_basis.specs.SeamTables.{AreSeamTables};
 
     ghost Value = { Joined };
 
     ghost view = { λ b. of_sides b.sides b.seams };
 
-    ghost invariant = { λ b. AreBasisTables b.sides b.polygon b.first_sides b.second_sides b.seams };
+    ghost invariant = { λ b. AreSeamTables b.sides b.polygon b.first_sides b.second_sides b.seams };
 }
 
-/// Joins the polygons of a page to one, along its labels by number. For now the page has one polygon, which
-/// stays as it is, so there is no seam.
+/// Joins the polygons of a page to one, along its labels by number: a label whose two sides then lie on two
+/// polygons is a seam, and the polygon of its second side is set in place of its first side.
 ///
-/// Linear in the sides and the labels.
+/// At most the labels times the sides: at most 24 labels and 48 sides.
 pub fn join(alloc: Global, page: &Page) -> Result<Basis, NoMemory>
-    requires one { length page.now ≡ 1 }
     ensures { IfOk result (λ basis. basis ≡ joined page.now) }
 {
-    let sides = polygon_sides(alloc, page, 0)?;
+    let Whole { sides, seams } = join_polygons(alloc, page)?;
     let label_count = page.label_count();
     let first_sides = side_table(alloc, sides.as_slice(), label_count, 0)?;
     let second_sides = side_table(alloc, sides.as_slice(), label_count, 1)?;
@@ -69,25 +70,23 @@ pub fn join(alloc: Global, page: &Page) -> Result<Basis, NoMemory>
         polygon,
         first_sides,
         second_sides,
-        seams: Items::new(alloc),
+        seams,
     })
 }
 
 impl Basis {
-    /// The polygon that is left, each side glued to the other side of its label. For now no label is a seam.
-    /// Constant time, as are the calls below; all take no memory.
+    /// The polygon that is left, each side glued to the other side of its label. Constant time, as are the calls
+    /// below; all take no memory.
     pub fn polygon(&self) -> &Polygon
         ensures value { result.now ≡ joined_polygon self.now }
         ensures one { length self.now.polygons ≡ 1 }
-        ensures no_seam { self.now.seams ≡ [] }
     {
         &self.polygon
     }
 
-    /// The labels along which polygons were joined, in the order of joining. For now there is none.
+    /// The labels along which polygons were joined, in the order of joining.
     pub fn seams(&self) -> &[LabelNo]
         ensures value { result.now ≡ self.now.seams }
-        ensures none { self.now.seams ≡ [] }
     {
         self.seams.as_slice()
     }

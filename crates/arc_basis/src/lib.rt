@@ -7,6 +7,7 @@
 #![tactic(auto)]
 
 mod basis;
+mod joining;
 mod sides;
 
 pub use basis::{Basis, join};

@@ -8,12 +8,14 @@ use Rattle.obd_base.proofs.lists.Below.{bit}
 use Rattle.obd_base.proofs.lists.Sums.{sum_map, sum_same}
 use Rattle.page_surface.specs.declared.page.SideLabel.{SideLabel}
 use Rattle.page_surface.specs.Drawing.{crosses}
-use Rattle.page_surface.specs.Joining.{other_side, side}
-use Rattle.page_surface.specs.Labels.{Label, labels_of}
+use Rattle.page_surface.specs.Joining.{is_side, other_side, side}
+use Rattle.page_surface.specs.Labels.{Label, side_labels, labels_of}
 use Rattle.page_surface.specs.Page.{IsPage}
 use Rattle.page_surface.specs.Polygon.{IsPolygon}
-use Rattle.arc_basis.proofs.Laws.{one_polygon}
-use Rattle.arc_basis.proofs.Places.{mem_at, no_place}
+use Rattle.std.proofs.lemmas.List.{append-nil}
+use Rattle.arc_basis.proofs.LabelCounts.{stands}
+use Rattle.arc_basis.proofs.Rows.{once_in_row}
+use Rattle.arc_basis.proofs.Places.{any_counted, mem_at, no_place}
 use Rattle.curve_paths.specs.declared.crossing.Crossing.{Crossing}
 use Rattle.curve_paths.specs.declared.path.Cross.{Cross}
 use Rattle.curve_paths.specs.Curves.{IsCurve, curve_chord, curve_stands, previous}
@@ -46,7 +48,10 @@ before_following n i l = elim (cases_eq (suc i) n) [
 on_one : (page : List (List Label)) → IsPage page → length page ≡ 1 → (s : SideLabel) → s.label < length (labels_of page) → s.occurrence ≤ 1 → polygon_at page s ≡ 0
 on_one [] valid one s l o = absurd (omega arith)
 on_one (p ∷ q ∷ page) valid one s l o = absurd (omega arith)
-on_one (names ∷ []) valid one s l o = let there = (one_polygon (names ∷ []) valid one).both s.label s.occurrence l o in rw there refl
+on_one (names ∷ []) valid one s l o =
+    let once = ap (stands s.label s.occurrence) (sym (append-nil (side_labels [] names))) ∙ once_in_row (names ∷ []) valid s.label s.occurrence l o in
+    let there = any_counted (is_side s) (side_labels [] names) (omega (arith, once)) in
+    rw there refl
 
 module _ (page : List (List Label)) (valid : IsPage page) (cs : List Crossing) (placed : ArePlaced page cs)
     (curve : IsCurve (polygon page valid cs placed) (outs page valid cs placed)) where

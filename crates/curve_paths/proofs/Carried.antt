@@ -23,8 +23,8 @@ use Rattle.curve_paths.specs.Curves.{IsCurve, curve_chord, curve_entry, curve_po
 use Rattle.curve_paths.specs.Paths.{crossing_at, entered_side, following, has_label_places, is_met_at, label_points, path_chord, path_spot, place_on, row, side_start}
 use Rattle.curve_paths.specs.PlaceTables.{ArePlaced}
 use Rattle.curve_paths.proofs.CurveEnds.{chords_turned, previous_within}
-use Rattle.curve_paths.proofs.Orders.{itself, named_in_row, once_in_row, same_side}
 use Rattle.curve_paths.proofs.Starts.{none}
+use Rattle.arc_basis.proofs.Rows.{itself, named_in_row, once_in_row, same_side}
 
 -- a sum over the first of a list, by number
 sum_first : (f : SideLabel → ℕ) (xs : List SideLabel) (k : ℕ) → k ≤ length xs → sum_by f (take k xs) ≡ sum_by (λ i. f (get_or xs i none)) (below k)
@@ -112,14 +112,14 @@ module _ (page : List (List Label)) (valid : IsPage page) (cs : List Crossing) (
         false≢true (sym no' ∙ (ap (is_side s) same ∙ itself s))))
   ]
 
-  named_other : (s : SideLabel) → IsNamed s → IsNamed (other_side s)
+  pub named_other : (s : SideLabel) → IsNamed s → IsNamed (other_side s)
   named_other s n = (n.0, omega arith)
 
   pub size : sides polygon ≡ length (row page)
   size = length-map (row page) (λ s. place (other_side s))
 
   -- the partner of a side is its label's other side
-  partner_place : (s : SideLabel) → IsNamed s → partner polygon (place s) ≡ place (other_side s)
+  pub partner_place : (s : SideLabel) → IsNamed s → partner polygon (place s) ≡ place (other_side s)
   partner_place s n =
       let t = stands_there s n in
       get_or-map (λ s. place (other_side s)) (row page) (place s) none (place s) t.0 ∙ ap (λ s. place (other_side s)) t.1
@@ -228,7 +228,7 @@ module _ (page : List (List Label)) (valid : IsPage page) (cs : List Crossing) (
   pub many : length outs ≡ length cs
   many = length-map cs out
 
-  out_at : (i : ℕ) → i < length cs → exit_at outs i ≡ out (crossing_at cs i)
+  pub out_at : (i : ℕ) → i < length cs → exit_at outs i ≡ out (crossing_at cs i)
   out_at i l = get_or-map out cs i _ _ l
 
   -- each chord of the exits is a chord of the path, the one before

@@ -1,7 +1,7 @@
 -- The place order of a page: its sides in a row, each once, and the numbers that they take.
-use Rattle.std.proofs.Common.{◌≡◌, ℕ, suc, zero, ◌+◌, ◌-◌, ◌*◌, ◌<◌, ◌≤◌, true, cond, eqb, List, [], ◌∷◌, map, length, take, get_or, refl, sym, subst, ap, ap₂, ◌∙◌, arith, inl, inr}
-use Rattle.std.specs.List.{before_first, list_any, position_or_len, sum_by}
-use Rattle.std.proofs.lemmas.Bool.{cases_Bool, cases_eq, eq-eqb, ne_eqb, eqb-true, and_from, and_parts, false≢true}
+use Rattle.std.proofs.Common.{◌≡◌, ℕ, suc, zero, ◌+◌, ◌-◌, ◌*◌, ◌<◌, ◌≤◌, cond, eqb, List, [], ◌∷◌, map, length, take, get_or, sym, subst, ap, ap₂, ◌∙◌, arith, inl, inr}
+use Rattle.std.specs.List.{before_first, position_or_len, sum_by}
+use Rattle.std.proofs.lemmas.Bool.{cases_eq, eq-eqb, ne_eqb}
 use Rattle.std.proofs.lemmas.List.{length-take}
 use Rattle.std.proofs.lemmas.List.FromFn.{length-map-range_with_len}
 use Rattle.std.proofs.lemmas.List.Sums.{sum_by-cons}
@@ -13,7 +13,8 @@ use Rattle.page_surface.specs.Labels.{Label, all_sides, labels_of, side_labels}
 use Rattle.page_surface.specs.Page.{IsPage}
 use Rattle.page_surface.proofs.FewSides.{few_sides}
 use Rattle.page_surface.proofs.Sides.{length-side_labels}
-use Rattle.arc_basis.proofs.LabelCounts.{each_once, side_named, sides_in_row, stands}
+use Rattle.arc_basis.proofs.LabelCounts.{sides_in_row}
+use Rattle.arc_basis.proofs.Rows.{itself, mem_had, named_in_row, once_in_row}
 use Rattle.arc_basis.proofs.Places.{any_counted, mem_at, only_place}
 use Rattle.curve_paths.specs.declared.crossing.Crossing.{Crossing}
 use Rattle.curve_paths.specs.Paths.{crossing_at, entered_side, following, label_points, path_spot, row}
@@ -21,22 +22,6 @@ use Rattle.curve_paths.specs.PlaceTables.{ArePlaced, AreSides, AreStarts, IsPlac
 use Rattle.curve_paths.proofs.Numbers.{count_read, few_points}
 use Rattle.curve_paths.proofs.PathChords.{same_at}
 use Rattle.curve_paths.proofs.Starts.{none}
-
--- a side is itself
-pub itself : (s : SideLabel) → is_side s s ≡ true
-itself s = and_from _ _ (eq-eqb s.label s.label refl) (eq-eqb s.occurrence s.occurrence refl)
-
--- and nothing else is
-pub same_side : (s t : SideLabel) → is_side s t ≡ true → s ≡ t
-same_side s t h = let r = and_parts (eqb s.label t.label) (eqb s.occurrence t.occurrence) h in ap₂ (λ a b. side a b) (eqb-true _ _ r.0) (eqb-true _ _ r.1)
-
--- a side that stands among some is a member
-mem_side : (s : SideLabel) (sides : List SideLabel) → list_any (is_side s) sides ≡ true → Mem s sides
-mem_side s [] h = absurd (false≢true h)
-mem_side s (t ∷ sides) h = elim (cases_Bool (is_side s t)) [
-  | inl y ↦ inl (same_side s t y)
-  | inr n ↦ inr (mem_side s sides (rw n at h))
-]
 
 -- a member of the first ones is a member
 mem_take : {X : Type 0} (x : X) (k : ℕ) (xs : List X) → Mem x (take k xs) → Mem x xs
@@ -58,23 +43,16 @@ module _ (page : List (List Label)) (valid : IsPage page) where
   few_in_row : length (row page) ≤ 48
   few_in_row = omega (arith, ap length row_is, length-side_labels [] (all_sides page), few_sides page valid)
 
-  -- each is one of the two sides of a label
-  pub named_in_row : (s : SideLabel) → Mem s (row page) → (s.label < length (labels_of page)) × (s.occurrence ≤ 1)
-  named_in_row s m = side_named [] (all_sides page) s (subst (λ (xs : List SideLabel). Mem s xs) row_is m)
-
-  -- and each of these stands once
-  pub once_in_row : (label occurrence : ℕ) → label < length (labels_of page) → occurrence ≤ 1 → stands label occurrence (row page) ≡ 1
-  once_in_row label occurrence l o = ap (stands label occurrence) row_is ∙ each_once page valid label occurrence l o
-
+  -- each side of each label is there
   pub there_in_row : (label occurrence : ℕ) → label < length (labels_of page) → occurrence ≤ 1 → Mem (side label occurrence) (row page)
-  there_in_row label occurrence l o = mem_side (side label occurrence) (row page) (any_counted (is_side (side label occurrence)) (row page) (omega (arith, once_in_row label occurrence l o)))
+  there_in_row label occurrence l o = mem_had (side label occurrence) (row page) (any_counted (is_side (side label occurrence)) (row page) (omega (arith, once_in_row page valid label occurrence l o)))
 
   -- so a side stands where it is found
   pub place_in_row : (k : ℕ) → k < length (row page) → position_or_len (is_side (get_or (row page) k none)) (row page) ≡ k
   place_in_row k l =
       let s : SideLabel = get_or (row page) k none in
-      let n = named_in_row s (mem_at (row page) k none l) in
-      only_place (is_side s) (row page) k none (once_in_row s.label s.occurrence n.0 n.1) l (itself s)
+      let n = named_in_row page valid s (mem_at (row page) k none l) in
+      only_place (is_side s) (row page) k none (once_in_row page valid s.label s.occurrence n.0 n.1) l (itself s)
 
   -- the sides and counts of as many labels are good for the table
   pub good_sides : (counts : List ℕ) → length counts ≡ length (labels_of page) → ((label : ℕ) → label < length counts → get_or counts label 0 ≤ 32)
@@ -83,7 +61,7 @@ module _ (page : List (List Label)) (valid : IsPage page) where
       subst (λ (ys : List SideLabel). AreSides ys xs) (sym e) (subst (λ (ns : List ℕ). AreSides (row page) ns) (sym f) (record {
         few = few_in_row;
         few_points = few;
-        named = λ s m. let n = named_in_row s m in (omega (arith, size, n.0), n.1);
+        named = λ s m. let n = named_in_row page valid s m in (omega (arith, size, n.0), n.1);
         once = place_in_row;
       }))
 
@@ -105,7 +83,7 @@ module _ (page : List (List Label)) (valid : IsPage page) where
           h.starts_are s (subst (λ (xs : List SideLabel). Mem s xs) (sym e) (there_in_row label occurrence l o))
           ∙ (ap (λ (xs : List SideLabel). start_of xs counts s) e
           ∙ sum_same (λ t. get_or counts t.label 0 + 2) (λ t. label_points cs t.label + 2) (before_first (is_side s) (row page))
-          (λ t m. ap (λ n. n + 2) (count_read cs counts (length (labels_of page)) t.label c (named_in_row t (mem_take t _ (row page) m)).0)));
+          (λ t m. ap (λ n. n + 2) (count_read cs counts (length (labels_of page)) t.label c (named_in_row page valid t (mem_take t _ (row page) m)).0)));
       fits = λ label occurrence l o.
           let s : SideLabel = side label occurrence in
           let bound = sum_bounded (λ t. label_points cs t.label + 2) (before_first (is_side s) (row page)) (λ t. omega (arith, few_points cs t.label, few)) in

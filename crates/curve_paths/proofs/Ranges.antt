@@ -14,7 +14,8 @@ use Rattle.page_surface.specs.Page.{IsPage}
 use Rattle.curve_paths.specs.declared.crossing.Crossing.{Crossing}
 use Rattle.curve_paths.specs.Paths.{crossing_at, entered_side, following, is_within, label_points, path_chord, path_spot, polygon_at, row}
 use Rattle.curve_paths.specs.PlaceTables.{ArePlaced}
-use Rattle.curve_paths.proofs.Orders.{at_crossing, following_within, itself, same_side, there_in_row}
+use Rattle.curve_paths.proofs.Orders.{at_crossing, following_within, there_in_row}
+use Rattle.arc_basis.proofs.Rows.{itself, same_side}
 
 module _ (f : SideLabel → ℕ) (s : SideLabel) where
   -- the sum before the first place of the side

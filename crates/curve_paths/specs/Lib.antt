@@ -1,3 +1,4 @@
+pub mod Alphabet
 pub mod CurveTables
 pub mod Curves
 pub mod PathRules

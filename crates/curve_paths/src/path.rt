@@ -1,6 +1,6 @@
 // A curve on a page, given by its crossings with labels.
 ghost use Rattle.std.specs.Prelude.{◌≡◌, ◌≢◌, ◌<◌, ◌≤◌, ◌^◌, ◌↔◌, [], map, length, filter_map, None, Some, IfOk, IfErr, IfSome, IsSome, OnOk};
-ghost use Rattle.obd_base.specs.Lists.{below};
+ghost use Rattle.obd_base.specs.Lists.{Mem, below};
 ghost use Rattle.page_surface.specs.Joining.{joined};
 
 use crate::chords::{ChordPair, PlaceOrder, chords_of, crossing_pair, first_apart};
@@ -71,6 +71,8 @@ impl PageCurve {
     ghost use Rattle.curve_paths.specs.Curves.{IsCurve};
     ghost use Rattle.curve_paths.specs.PathRules.{IsPath, refusal_of};
     ghost use Rattle.curve_paths.specs.PathTables.{HaveOccurrences};
+    ghost use Rattle.curve_paths.specs.Paths.{crossings};
+    ghost use Rattle.curve_paths.specs.declared.crossing.Crossing.{Crossing};
     ghost use Rattle.curve_paths.specs.Through.{exits_through};
 
     /// The curve on a page with these crossings. The rules are tried in the order of `CurveRefusal`, and the
@@ -120,7 +122,9 @@ impl PageCurve {
     /// exactly where the path crosses seams alone, so never on a page of one polygon. Linear in the path.
     pub fn through(&self, basis: &Basis) -> Result<Option<Curve>, NoMemory>
         requires { basis.now ≡ joined self.now.page }
-        ensures seams { IfOk result (λ found. (found ≡ None) ↔ (exits_through self.now.page self.now.path ≡ [])) }
+        ensures seams { IfOk result (λ found. (found ≡ None)
+            ↔ ((c : Crossing) → Mem c (crossings self.now.page self.now.path) → Mem c.side.label basis.now.seams)) }
+        ensures none { IfOk result (λ found. (found ≡ None) ↔ (exits_through self.now.page self.now.path ≡ [])) }
         ensures one { length self.now.page ≡ 1 → IfOk result (λ found. IsSome found) }
         ensures exits { IfOk result (λ found. IfSome found (λ curve. curve ≡ exits_through self.now.page self.now.path)) }
         ensures curve { IfOk result (λ found. IfSome found (λ curve. IsCurve (joined_polygon basis.now) curve)) }

@@ -8,7 +8,7 @@ use Rattle.obd_base.specs.Lists.{Mem, below}
 use Rattle.obd_base.proofs.lists.Below.{bit, mem_range}
 use Rattle.obd_base.proofs.lists.Sums.{sum_below_push, sum_none, sum_same, sum_swap}
 use Rattle.curve_paths.specs.Curves.{previous}
-use Rattle.path_words.proofs.Members.{Rises}
+use Rattle.curve_paths.proofs.Members.{Rises}
 
 -- the same summand wherever a test passes
 pub sum_cond : {X : Type 0} (t : X → Bool) (g : ℕ) (xs : List X) → sum_by (λ x. cond (t x) g 0) xs ≡ sum_by (λ x. bit (t x)) xs * g

@@ -6,13 +6,13 @@ use Rattle.std.proofs.lemmas.List.{map-append}
 use Rattle.std.proofs.lemmas.List.Concat.{flat_map_single}
 use Rattle.std.proofs.lemmas.List.Elements.{filter-append}
 use Rattle.dehn_twist.proofs.Circle.{TwoKinds, leaving_end, leaving_parts, open_points, outside}
-use Rattle.path_words.proofs.Members.{Rises, rises_join}
-use Rattle.path_words.proofs.Places.{range_join}
-use Rattle.path_words.proofs.Planar.{Interval, Planar, Tells, interval_once}
+use Rattle.curve_paths.proofs.Members.{Rises, rises_join}
+use Rattle.curve_paths.proofs.PointPlaces.{range_join}
+use Rattle.curve_paths.proofs.Planar.{Interval, Planar, Tells, interval_once}
 use Rattle.obd_base.proofs.lists.Below.{mem_range, range_mem}
 use Rattle.obd_base.proofs.lists.Members.{mem_append, mem_filter, mem_left, mem_right}
 use Rattle.obd_base.specs.Lists.{Mem}
-use Rattle.path_words.specs.Alphabet.{Alike, Alphabet, cancelled}
+use Rattle.curve_paths.specs.Alphabet.{Alike, Alphabet, cancelled}
 
 to_filter : {A : Type 0} (p : A → Bool) (z : A) (xs : List A) → Mem z xs → p z ≡ true → Mem z (filter p xs)
 to_filter p z [] m e = absurd m

@@ -34,7 +34,7 @@ use Rattle.dehn_twist.specs.Surgery.{copy_of, loop_along}
 use Rattle.dehn_twist.proofs.LineOrder.{map_down, range_moved}
 use Rattle.dehn_twist.proofs.NewCircle.{map-map}
 use Rattle.dehn_twist.proofs.Rows.{sum_const}
-use Rattle.path_words.proofs.Places.{range_join}
+use Rattle.curve_paths.proofs.PointPlaces.{range_join}
 
 -- the index of a line in closed form
 pub line_plus_low : (total upto line : ℕ) → line < upto → upto ≤ total → line_index Plus total upto line ≡ upto - 1 - line

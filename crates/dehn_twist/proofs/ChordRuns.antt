@@ -28,8 +28,8 @@ use Rattle.dehn_twist.proofs.NewPoints.{new_circle}
 use Rattle.dehn_twist.proofs.BetweenEnds.{beyond_true, least, most}
 use Rattle.dehn_twist.proofs.LineLabels.{part}
 use Rattle.dehn_twist.proofs.Runs.{NewRuns, at_first, at_last, loop_rights, loop_runs, runs_join}
-use Rattle.path_words.proofs.CurvePlanar.{all_points}
-use Rattle.path_words.proofs.Members.{Rises}
+use Rattle.curve_paths.proofs.CurvePlanar.{all_points}
+use Rattle.curve_paths.proofs.Members.{Rises}
 use Rattle.dehn_twist.specs.Surgery.{curve_mate, surgery}
 use Rattle.drawing.proofs.Lists.{length_sum}
 use Rattle.dehn_twist.proofs.RisingLists.{rises_change, rises_filter, flat_reverse}

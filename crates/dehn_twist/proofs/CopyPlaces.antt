@@ -11,7 +11,7 @@ use Rattle.obd_base.specs.declared.points.Sign.{Sign}
 use Rattle.obd_base.specs.declared.points.Sign.TheVariants.{Minus, Plus}
 use Rattle.page_surface.specs.Drawing.{Drawing, all_exits, entry, points_on}
 use Rattle.page_surface.specs.Polygon.{Pairs, Polygon, partner, sides}
-use Rattle.path_words.proofs.CurvePoints.{In, exit_same, points_partner, twice_eqb}
+use Rattle.curve_paths.proofs.CurvePoints.{In, exit_same, points_partner, twice_eqb}
 
 -- rows before a row, the row, and rows after it
 pub rows_split : (total mc j : ℕ) → j < mc → mc * total ≡ (mc - 1 - j) * total + (total + j * total)

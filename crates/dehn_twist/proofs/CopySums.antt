@@ -22,7 +22,7 @@ use Rattle.dehn_twist.proofs.MeetingSums.{crosses_either, crossings, crossings_a
 use Rattle.dehn_twist.proofs.Merged.{size}
 use Rattle.dehn_twist.proofs.MergedCircle.{mate}
 use Rattle.dehn_twist.proofs.Opens.{inner_open}
-use Rattle.path_words.proofs.CurvePoints.{In, exit_in}
+use Rattle.curve_paths.proofs.CurvePoints.{In, exit_in}
 use Rattle.obd_base.proofs.lists.Below.{count_less}
 
 -- a sum over a list read round

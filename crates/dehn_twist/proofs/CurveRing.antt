@@ -13,9 +13,9 @@ use Rattle.page_surface.specs.Polygon.{Pairs, Polygon, partner, sides}
 use Rattle.curve_paths.specs.Curves.{IsCurve, curve_entry, curve_points, curve_spot, curve_stands, exit_at, previous}
 use Rattle.dehn_twist.specs.Surgery.{chord_at, chord_end, chord_start, curve_mate, curve_ring, is_chord_end, next_exit}
 use Rattle.dehn_twist.proofs.Arranged.{sum_arranged, sum_previous}
-use Rattle.path_words.proofs.CurvePlanar.{all_points}
-use Rattle.path_words.proofs.CurvePoints.{In, Made, at_itself, at_parts, entering, enters_entry, entry_in, exit_in, leaves_entry, leaves_exit, leaving, made, mate, mate_entry, mate_exit, points_partner, previous-less}
-use Rattle.path_words.proofs.Places.{mem_points, number_same}
+use Rattle.curve_paths.proofs.CurvePlanar.{all_points}
+use Rattle.curve_paths.proofs.CurvePoints.{In, Made, at_itself, at_parts, entering, enters_entry, entry_in, exit_in, leaves_entry, leaves_exit, leaving, made, mate, mate_entry, mate_exit, points_partner, previous-less}
+use Rattle.curve_paths.proofs.PointPlaces.{mem_points, number_same}
 
 module _ (p : Polygon) (ok : Pairs p) (c : List Exit) (curve : IsCurve p c) where
   abbrev R : ℕ

@@ -16,7 +16,7 @@ use Rattle.page_surface.specs.Polygon.{Polygon, sides}
 use Rattle.page_surface.specs.Words.{reduced}
 use Rattle.curve_paths.specs.Curves.{IsCurve, twisted}
 use Rattle.curve_paths.specs.Twists.{AreWords, by_power, going_on, letters, limited, sign_of, times, turns_of}
-use Rattle.path_words.proofs.Members.{mem_get_or}
+use Rattle.curve_paths.proofs.Members.{mem_get_or}
 use Rattle.drawing.proofs.Lists.{mem_flat}
 use Rattle.drawing.proofs.Placed.{side_in-placed}
 use Rattle.drawing.specs.Tight.{tight_drawing}

@@ -8,15 +8,15 @@ use Rattle.obd_base.specs.declared.points.Exit.{Exit}
 use Rattle.obd_base.specs.declared.points.Sign.{Sign}
 use Rattle.page_surface.specs.Drawing.{exit}
 use Rattle.page_surface.specs.Polygon.{Pairs, Polygon, partner, sides}
-use Rattle.path_words.proofs.CurvePoints.{points_partner}
+use Rattle.curve_paths.proofs.CurvePoints.{points_partner}
 use Rattle.path_words.proofs.CurveWords.{once_round, part_across, point_word, product_from, product_points, product_sides}
 use Rattle.path_words.proofs.ImageProduct.{moved, upto, upto_side}
 use Rattle.path_words.proofs.Passed.{before_suc, before_zero}
-use Rattle.path_words.proofs.Places.{points_from, points_of, range_join}
-use Rattle.path_words.proofs.Reduction.{alike_after, alike_back, alike_before, alike_middle, back-append, word_and_back}
-use Rattle.path_words.proofs.Reduction.{null_first}
+use Rattle.curve_paths.proofs.PointPlaces.{points_from, points_of, range_join}
+use Rattle.curve_paths.proofs.Reduction.{alike_after, alike_back, alike_before, alike_middle, back-append, word_and_back}
+use Rattle.curve_paths.proofs.Reduction.{null_first}
 use Rattle.path_words.proofs.SideLetters.{side_letters}
-use Rattle.path_words.specs.Alphabet.{Alike, Alphabet, Null, back, cancelled}
+use Rattle.curve_paths.specs.Alphabet.{Alike, Alphabet, Null, back, cancelled}
 
 -- the points of successive sides in two parts
 pub points_join : (count : ℕ → ℕ) (a r s : ℕ) → points_of count a (r + s) ≡ points_of count a r ++ points_of count (a + r) s

@@ -9,11 +9,11 @@ use Rattle.obd_base.proofs.lists.Sums.{member_adds, members_add}
 use Rattle.page_surface.specs.Drawing.{Chord, crosses, no_two_cross}
 use Rattle.page_surface.proofs.EmbeddedTest.{all_from}
 use Rattle.drawing.specs.Round.{other_end}
-use Rattle.path_words.specs.Alphabet.{Alphabet, Null}
-use Rattle.dehn_twist.proofs.NotCrossing.{not_crossing}
-use Rattle.dehn_twist.proofs.Matching.{Good, good_from_null}
+use Rattle.curve_paths.specs.Alphabet.{Alphabet, Null}
+use Rattle.curve_paths.proofs.NotCrossing.{not_crossing}
+use Rattle.curve_paths.proofs.Matching.{Good, good_from_null}
 use Rattle.drawing.proofs.Mates.{Joins, chord_here, end_here, ends_from, ends_to, other_from, other_to, other_twice}
-use Rattle.path_words.proofs.Members.{Rises}
+use Rattle.curve_paths.proofs.Members.{Rises}
 use Rattle.drawing.proofs.Placed.{ends_at, ends_of}
 
 -- where any two different chords of a list don't cross, and no chord stands in it twice, no two of the list cross

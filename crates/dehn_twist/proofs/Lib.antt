@@ -20,7 +20,6 @@ mod LineLabels
 mod LineOrder
 mod LoopTables
 mod LoopWords
-mod Matching
 mod MeetingLabels
 mod MeetingParts
 mod MeetingSums
@@ -34,7 +33,6 @@ mod NewPlaced
 mod NewPlaces
 mod NewPoints
 mod NoCrossing
-mod NotCrossing
 mod NumberTables
 mod Opens
 mod PartLabels

@@ -21,7 +21,7 @@ use Rattle.dehn_twist.proofs.MovedChords.{injective}
 use Rattle.dehn_twist.proofs.MergedCircle.{beads, mate}
 use Rattle.dehn_twist.proofs.PartLabels.{hi, lo, opened, opened_length}
 use Rattle.dehn_twist.proofs.BetweenEnds.{map_entries}
-use Rattle.path_words.proofs.CurvePoints.{In}
+use Rattle.curve_paths.proofs.CurvePoints.{In}
 
 module _ (d : Drawing) (dok : IsEmbedded d) (c : List Exit) (curve : IsCurve d.polygon c) where
   abbrev ok : Pairs d.polygon

@@ -8,8 +8,8 @@ use Rattle.obd_base.specs.declared.points.Sign.{Sign}
 use Rattle.obd_base.specs.declared.points.Sign.TheVariants.{Minus, Plus}
 use Rattle.obd_base.proofs.lists.Below.{below_push}
 use Rattle.dehn_twist.proofs.CopyPlaces.{line_with}
-use Rattle.path_words.proofs.Members.{Rises}
-use Rattle.path_words.proofs.Places.{range_join}
+use Rattle.curve_paths.proofs.Members.{Rises}
+use Rattle.curve_paths.proofs.PointPlaces.{range_join}
 
 -- maps that agree on the members
 pub map_on : {X Y : Type 0} (f g : X → Y) (xs : List X) → ((x : X) → Mem x xs → f x ≡ g x) → map f xs ≡ map g xs

@@ -14,7 +14,7 @@ use Rattle.page_surface.specs.Drawing.{Chord, Drawing, beyond, crosses, differ, 
 use Rattle.page_surface.specs.Polygon.{sides}
 use Rattle.curve_paths.specs.Curves.{curve_points}
 use Rattle.drawing.proofs.SweepTables.{flat_push}
-use Rattle.path_words.proofs.Members.{mem_get_or}
+use Rattle.curve_paths.proofs.Members.{mem_get_or}
 use Rattle.dehn_twist.specs.Surgery.{chord_at, chord_end, chord_start, curve_number, curve_ring, goes_up, is_forward, loop_along, loop_at, meeting_count, meeting_number, meetings, meetings_upto, meets_at, merged_chords, merged_curve}
 use Rattle.dehn_twist.specs.Tables.{AreTaken, Pair, curve_point, loop_met, point_met, ring_at}
 use Rattle.dehn_twist.specs.declared.ring.CurvePoint.{CurvePoint}

@@ -14,7 +14,7 @@ use Rattle.page_surface.specs.Drawing.{Chord, Drawing, IsEmbedded, beyond, exit}
 use Rattle.page_surface.specs.Polygon.{Pairs, Polygon, partner}
 use Rattle.page_surface.specs.Words.{inverse}
 use Rattle.curve_paths.specs.Curves.{IsCurve, curve_entry, curve_spot, exit_at, previous, rho, signed, turned}
-use Rattle.path_words.specs.Alphabet.{Alike, Alphabet, back, cancelled}
+use Rattle.curve_paths.specs.Alphabet.{Alike, Alphabet, back, cancelled}
 use Rattle.path_words.proofs.SideLetters.{side_letters}
 use Rattle.dehn_twist.specs.Surgery.{chord_at, copy_of, curve_mate, curve_number, curve_ring, goes_up, is_chord_end, is_forward, is_plus, line_index, loop_along, loop_at, loops, meeting_number, meetings, meetings_upto, meets_at, strand_number}
 use Rattle.dehn_twist.proofs.Blocks.{filter_same, filter_twice}
@@ -28,11 +28,11 @@ use Rattle.dehn_twist.proofs.Merged.{Stands, curve_number_is, curve_rises, kinds
 use Rattle.dehn_twist.proofs.NewCircle.{map-map}
 use Rattle.dehn_twist.proofs.BetweenEnds.{beyond_in, beyond_out, least, most}
 use Rattle.dehn_twist.proofs.Passing.{filter_split, flat_map_same', front_number, map_flat_map, placed}
-use Rattle.path_words.proofs.CurvePlanar.{all_points, curve_planar}
-use Rattle.path_words.proofs.CurvePoints.{In, following-previous, mate, previous-less}
+use Rattle.curve_paths.proofs.CurvePlanar.{all_points, curve_planar}
+use Rattle.curve_paths.proofs.CurvePoints.{In, following-previous, mate, previous-less}
 use Rattle.path_words.proofs.CurveWords.{point_word, product_once, read_entry, read_exit, turned_following}
-use Rattle.path_words.proofs.Planar.{Interval, Tells}
-use Rattle.path_words.proofs.Reduction.{alike_back, back-append, back-back, back_and_word, null_out}
+use Rattle.curve_paths.proofs.Planar.{Interval, Tells}
+use Rattle.curve_paths.proofs.Reduction.{alike_back, back-append, back-back, back_and_word, null_out}
 use Rattle.page_surface.specs.Drawing.{differ}
 
 map-turned : {A B : Type 0} (f : A → B) (i : ℕ) (xs : List A) → map f (turned i xs) ≡ turned i (map f xs)

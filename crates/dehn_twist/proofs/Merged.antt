@@ -17,13 +17,13 @@ use Rattle.dehn_twist.specs.Surgery.{chord_end, chord_start, curve_number, curve
 use Rattle.dehn_twist.proofs.CurveRing.{end_in, ring_sum, start_in}
 use Rattle.dehn_twist.proofs.TwoLists.{from_counts, to_counts}
 use Rattle.dehn_twist.proofs.TwoSorts.{moved_is, moved_number, moved_rises, numbers_apart, old_within, slot_within}
-use Rattle.path_words.proofs.CurvePoints.{In}
-use Rattle.path_words.proofs.CurvePlanar.{all_points}
+use Rattle.curve_paths.proofs.CurvePoints.{In}
+use Rattle.curve_paths.proofs.CurvePlanar.{all_points}
 use Rattle.drawing.proofs.Mates.{chord_here}
-use Rattle.path_words.proofs.Members.{Rises}
+use Rattle.curve_paths.proofs.Members.{Rises}
 use Rattle.drawing.proofs.Moved.{moved, moved_uncrossed}
 use Rattle.drawing.proofs.Placed.{at_most_one_end-placed, ends_at, ends_of, ends_past-placed, no_end_at_gap-placed, place_in-placed, same_count-placed, side_in-placed, which_place-placed}
-use Rattle.path_words.proofs.Places.{start_of, starts_rise}
+use Rattle.curve_paths.proofs.PointPlaces.{start_of, starts_rise}
 use Rattle.std.proofs.lemmas.List.Sums.{sum_by-append, sum_by-cons}
 use Rattle.dehn_twist.proofs.MovedChords.{pairs_uncrossed, moved_end_of, moved_once}
 

@@ -14,9 +14,9 @@ use Rattle.dehn_twist.proofs.Circle.{TwoKinds, meets}
 use Rattle.dehn_twist.proofs.CurveRing.{EndOf, is_first, is_last, mate_end, mate_start, ring_in, which_end}
 use Rattle.dehn_twist.proofs.Merged.{Stands, curve_end_of, curve_uncrossed, ends_within, kinds_apart, one_end_each, size, strand_end_of, strands_uncrossed}
 use Rattle.dehn_twist.proofs.TwoLists.{end_is, from_counts, is_end, no_end_is, to_counts, two_kinds}
-use Rattle.path_words.proofs.CurvePoints.{In}
+use Rattle.curve_paths.proofs.CurvePoints.{In}
 use Rattle.drawing.proofs.Mates.{other_from, other_stays, other_to}
-use Rattle.path_words.proofs.Members.{mem_to_map}
+use Rattle.curve_paths.proofs.Members.{mem_to_map}
 use Rattle.drawing.proofs.Placed.{ends_at, ends_of}
 
 module _ (d : Drawing) (dok : IsEmbedded d) (c : List Exit) (curve : IsCurve d.polygon c) where

@@ -31,11 +31,11 @@ use Rattle.dehn_twist.proofs.LineLabels.{is_inside, label, lines, part}
 use Rattle.dehn_twist.proofs.PointWords.{word_end, word_start}
 use Rattle.dehn_twist.proofs.TwoLists.{ends_twice, no_end_is}
 use Rattle.dehn_twist.proofs.TwoSorts.{old_place, old_within, slot_place, slot_within}
-use Rattle.path_words.proofs.CurvePoints.{In}
+use Rattle.curve_paths.proofs.CurvePoints.{In}
 use Rattle.drawing.proofs.Mates.{Joins, chord_here, other_joins, other_stays}
-use Rattle.path_words.proofs.Members.{Rises, rises_join}
+use Rattle.curve_paths.proofs.Members.{Rises, rises_join}
 use Rattle.drawing.proofs.Placed.{ends_at, ends_of, one_end-placed}
-use Rattle.path_words.proofs.Places.{from_points_from, less_number, number, points_from, points_from_rise, range_join, start_of, starts_rise}
+use Rattle.curve_paths.proofs.PointPlaces.{from_points_from, less_number, number, points_from, points_from_rise, range_join, start_of, starts_rise}
 
 -- two maps are one
 pub map-map : {X Y Z : Type 0} (f : Y → Z) (g : X → Y) (xs : List X) → map f (map g xs) ≡ map (λ x. f (g x)) xs

@@ -13,7 +13,7 @@ use Rattle.page_surface.specs.Drawing.{Chord, Drawing, IsEmbedded, all_exits, ch
 use Rattle.page_surface.specs.Polygon.{Polygon, arc_count, first_side, second_side}
 use Rattle.curve_paths.specs.Curves.{IsCurve}
 use Rattle.drawing.proofs.Lists.{flat_mem, mem_flat, mem_to_map}
-use Rattle.path_words.specs.Alphabet.{Null}
+use Rattle.curve_paths.specs.Alphabet.{Null}
 use Rattle.dehn_twist.specs.Surgery.{kept_point, loop_at, meeting_count, meetings, merged_chords, merged_cut, strand_number, surgery, surgery_strand}
 use Rattle.dehn_twist.proofs.ChordRuns.{chord_runs, post_of, rights}
 use Rattle.dehn_twist.proofs.Circle.{Part}

@@ -16,7 +16,7 @@ use Rattle.dehn_twist.specs.Surgery.{copy_of, meeting_count, surgery, surgery_st
 use Rattle.dehn_twist.proofs.CopySums.{all_sum}
 use Rattle.dehn_twist.proofs.Merged.{is_placed'}
 use Rattle.dehn_twist.proofs.NewPlaces.{places_new}
-use Rattle.path_words.proofs.CurvePoints.{exit_in}
+use Rattle.curve_paths.proofs.CurvePoints.{exit_in}
 use Rattle.drawing.proofs.Placed.{side_in-placed}
 
 module _ (d : Drawing) (dok : IsEmbedded d) (c : List Exit) (curve : IsCurve d.polygon c) (sign : Sign) where

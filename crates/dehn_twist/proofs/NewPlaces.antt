@@ -17,7 +17,7 @@ use Rattle.dehn_twist.proofs.CopySums.{all_sum}
 use Rattle.dehn_twist.proofs.CurveRing.{entry_test}
 use Rattle.dehn_twist.proofs.Merged.{is_placed'}
 use Rattle.dehn_twist.proofs.Opens.{sum_down}
-use Rattle.path_words.proofs.CurvePoints.{In, entry-entry, entry_in, exit_in, exit_same}
+use Rattle.curve_paths.proofs.CurvePoints.{In, entry-entry, entry_in, exit_in, exit_same}
 use Rattle.drawing.proofs.Placed.{place_in-placed, same_count-placed, side_in-placed}
 use Rattle.drawing.proofs.Spots.{out_below}
 use Rattle.dehn_twist.proofs.Rows.{same, same_cases, same_of, not_same, sum_const, in_rows, rows_same, row_of}

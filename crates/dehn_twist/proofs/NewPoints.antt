@@ -12,7 +12,7 @@ use Rattle.obd_base.proofs.lists.Members.{mem_left, mem_right}
 use Rattle.page_surface.specs.Drawing.{Drawing, IsEmbedded, chords, end_of, exit, points_on, spot}
 use Rattle.page_surface.specs.Polygon.{sides}
 use Rattle.curve_paths.specs.Curves.{IsCurve, curve_points}
-use Rattle.path_words.specs.Alphabet.{Null, cancelled}
+use Rattle.curve_paths.specs.Alphabet.{Null, cancelled}
 use Rattle.drawing.proofs.Lists.{flat_mem, mem_flat, mem_to_map}
 use Rattle.dehn_twist.specs.Surgery.{copy_of, curve_number, is_lower, kept_point, meeting_count, merged_start, strand_number, surgery}
 use Rattle.dehn_twist.proofs.Circle.{Part}
@@ -23,10 +23,10 @@ use Rattle.dehn_twist.proofs.NewPlaced.{new_placed}
 use Rattle.dehn_twist.proofs.NewPlaces.{points_new}
 use Rattle.dehn_twist.proofs.PartNames.{part_letters, parts_null}
 use Rattle.dehn_twist.proofs.LineLabels.{lines}
-use Rattle.path_words.proofs.CurvePoints.{In}
-use Rattle.path_words.proofs.Members.{Rises}
+use Rattle.curve_paths.proofs.CurvePoints.{In}
+use Rattle.curve_paths.proofs.Members.{Rises}
 use Rattle.drawing.proofs.Placed.{ends_at, one_end-placed}
-use Rattle.path_words.proofs.Places.{from_points_from, points_from, range_join, start_suc}
+use Rattle.curve_paths.proofs.PointPlaces.{from_points_from, points_from, range_join, start_suc}
 use Rattle.dehn_twist.proofs.Merged.{size}
 
 module _ (d : Drawing) (dok : IsEmbedded d) (c : List Exit) (curve : IsCurve d.polygon c) (g : Sign) where

@@ -6,13 +6,13 @@ use Rattle.std.proofs.lemmas.List.{append-nil}
 use Rattle.std.proofs.lemmas.List.Concat.{flat_map-append}
 use Rattle.dehn_twist.proofs.Blocks.{Block, IsName, outside_not, parts_join}
 use Rattle.dehn_twist.proofs.Circle.{TwoKinds, leaving_end, leaving_parts, open_points, outside, set_at, set_closing, set_opening, surgered}
-use Rattle.path_words.proofs.Places.{range_join}
-use Rattle.path_words.proofs.Reduction.{alike_after, alike_join, alike_middle, back_and_word, null_out, word_and_back}
+use Rattle.curve_paths.proofs.PointPlaces.{range_join}
+use Rattle.curve_paths.proofs.Reduction.{alike_after, alike_join, alike_middle, back_and_word, null_out, word_and_back}
 use Rattle.obd_base.proofs.lists.Below.{mem_range}
 use Rattle.obd_base.specs.Lists.{Mem}
 use Rattle.obd_base.specs.declared.points.Sign.{Sign}
 use Rattle.obd_base.specs.declared.points.Sign.TheVariants.{Minus, Plus}
-use Rattle.path_words.specs.Alphabet.{Alike, Alphabet, Null, back, cancelled}
+use Rattle.curve_paths.specs.Alphabet.{Alike, Alphabet, Null, back, cancelled}
 
 module _ (size : ℕ) (is_curve : ℕ → Bool) (mate : ℕ → ℕ) (two : TwoKinds size is_curve mate) where
   abbrev Stretch : ℕ → ℕ → Type 0

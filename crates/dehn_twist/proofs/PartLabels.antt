@@ -20,8 +20,8 @@ use Rattle.dehn_twist.proofs.Merged.{curve_within, size}
 use Rattle.dehn_twist.proofs.MergedCircle.{at_curve, beads, is_curve, kind_strand, mate, mate_chord_end, mate_chord_start, strand_kind, two}
 use Rattle.dehn_twist.proofs.PartNames.{part_letters}
 use Rattle.dehn_twist.proofs.TwoLists.{is_end}
-use Rattle.path_words.proofs.CurvePoints.{In}
-use Rattle.path_words.proofs.Members.{Rises}
+use Rattle.curve_paths.proofs.CurvePoints.{In}
+use Rattle.curve_paths.proofs.Members.{Rises}
 use Rattle.dehn_twist.proofs.BetweenEnds.{least, most, beyond_in, beyond_out, beyond_true, beyond_false}
 
 module _ (d : Drawing) (dok : IsEmbedded d) (c : List Exit) (curve : IsCurve d.polygon c) where

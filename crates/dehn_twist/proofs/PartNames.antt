@@ -6,11 +6,11 @@ use Rattle.obd_base.specs.declared.points.Sign.{Sign}
 use Rattle.obd_base.proofs.lists.Below.{bit}
 use Rattle.obd_base.proofs.lists.Sums.{sum_same}
 use Rattle.page_surface.specs.Drawing.{beyond}
-use Rattle.path_words.specs.Alphabet.{Alphabet, Null}
+use Rattle.curve_paths.specs.Alphabet.{Alphabet, Null}
 use Rattle.dehn_twist.proofs.Blocks.{Block, IsName}
 use Rattle.dehn_twist.proofs.Circle.{Part, TwoKinds, greater_end, lesser_end, meets, met_between, part_name, surgered}
 use Rattle.dehn_twist.proofs.NoCrossing.{surgered_null}
-use Rattle.path_words.proofs.Crossing.{chord}
+use Rattle.curve_paths.proofs.ChordEnds.{chord}
 
 -- a part is told by its three numbers
 pub part_same : (x y : Part) → x.line ≡ y.line → x.chord ≡ y.chord → x.number ≡ y.number → x ≡ y

@@ -11,14 +11,14 @@ use Rattle.obd_base.proofs.lists.Members.{mem_append}
 use Rattle.page_surface.specs.Drawing.{Drawing, IsEmbedded, exit, points_on}
 use Rattle.page_surface.specs.Polygon.{Pairs, Polygon, sides}
 use Rattle.curve_paths.specs.Curves.{IsCurve, curve_points}
-use Rattle.path_words.specs.Alphabet.{Alphabet}
+use Rattle.curve_paths.specs.Alphabet.{Alphabet}
 use Rattle.path_words.proofs.SideLetters.{side_letters}
 use Rattle.dehn_twist.specs.Surgery.{curve_number, curve_ring, is_lower, strand_number}
 use Rattle.dehn_twist.proofs.Fronts.{front, points_before, points_split}
 use Rattle.dehn_twist.proofs.Merged.{Stands}
 use Rattle.path_words.proofs.CurveWords.{point_word}
-use Rattle.path_words.proofs.Members.{Rises}
-use Rattle.path_words.proofs.Places.{from_points, from_points_from, points_from, points_of, start_of, starts_rise}
+use Rattle.curve_paths.proofs.Members.{Rises}
+use Rattle.curve_paths.proofs.PointPlaces.{from_points, from_points_from, points_from, points_of, start_of, starts_rise}
 
 -- what passes nowhere
 filter_none : {X : Type 0} (f : X → Bool) (xs : List X) → ((x : X) → Mem x xs → f x ≡ false) → filter f xs ≡ []

@@ -10,7 +10,7 @@ use Rattle.obd_base.proofs.lists.Below.{below_push}
 use Rattle.page_surface.specs.Drawing.{Drawing}
 use Rattle.page_surface.specs.Polygon.{Polygon, sides}
 use Rattle.curve_paths.specs.Curves.{curve_entry, curve_points}
-use Rattle.path_words.proofs.CurvePoints.{entry_in}
+use Rattle.curve_paths.proofs.CurvePoints.{entry_in}
 use Rattle.drawing.proofs.Lists.{mem_at}
 use Rattle.drawing.proofs.SweepTables.{flat_push}
 use Rattle.dehn_twist.specs.Surgery.{chord_at, chord_start, curve_mate, curve_number, entering_exit, is_chord_end, leaving_exit, next_exit}

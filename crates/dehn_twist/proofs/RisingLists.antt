@@ -5,7 +5,7 @@ use Rattle.std.proofs.lemmas.List.{reverse-append}
 use Rattle.std.proofs.lemmas.List.Concat.{flat_map-append}
 use Rattle.obd_base.specs.Lists.{Mem}
 use Rattle.obd_base.proofs.lists.Members.{mem_filter}
-use Rattle.path_words.proofs.Members.{Rises}
+use Rattle.curve_paths.proofs.Members.{Rises}
 
 -- other numbers in the same order
 pub rises_change : {P : Type 0} (f g : P → ℕ) (xs : List P) → ((x y : P) → Mem x xs → Mem y xs → f x < f y → g x < g y) → Rises f xs → Rises g xs

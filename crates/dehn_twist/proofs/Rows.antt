@@ -8,7 +8,7 @@ use Rattle.obd_base.specs.declared.points.Exit.{Exit}
 use Rattle.obd_base.proofs.lists.Sums.{sum_below_push}
 use Rattle.page_surface.specs.Drawing.{is_at}
 use Rattle.dehn_twist.proofs.CopyPlaces.{rows_split}
-use Rattle.path_words.proofs.CurvePoints.{at_itself, at_parts}
+use Rattle.curve_paths.proofs.CurvePoints.{at_itself, at_parts}
 
 -- two exits are the same
 abbrev pub same : Exit → Exit → Bool

@@ -17,7 +17,7 @@ use Rattle.dehn_twist.proofs.NewCircle.{copy_label, label_at_end, label_at_start
 use Rattle.dehn_twist.proofs.NewPlaces.{copy_across}
 use Rattle.dehn_twist.proofs.NewPoints.{copy_there, new_circle}
 use Rattle.dehn_twist.proofs.LineLabels.{is_inside, label, label_other, line_label}
-use Rattle.path_words.proofs.CurvePoints.{entry-entry, entry_in, exit_in}
+use Rattle.curve_paths.proofs.CurvePoints.{entry-entry, entry_in, exit_in}
 use Rattle.dehn_twist.proofs.RoundNumbers.{Goes, round_from}
 
 module _ (new : Drawing) (points : List (Exit × Part)) where

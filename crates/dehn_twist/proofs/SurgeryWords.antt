@@ -11,7 +11,7 @@ use Rattle.page_surface.specs.Drawing.{Drawing, IsEmbedded, all_exits, end_of, e
 use Rattle.page_surface.specs.Polygon.{Pairs, Polygon, arc_count, first_side, partner, second_side, sides}
 use Rattle.page_surface.specs.Words.{reduced}
 use Rattle.curve_paths.specs.Curves.{IsCurve, curve_points, image, twisted}
-use Rattle.path_words.specs.Alphabet.{Alike, Alphabet, back, cancelled}
+use Rattle.curve_paths.specs.Alphabet.{Alike, Alphabet, back, cancelled}
 use Rattle.path_words.proofs.SideLetters.{reduced_is, side_letters}
 use Rattle.dehn_twist.specs.Surgery.{is_lower, kept_point, loops, meeting_count, surgery, surgery_strand}
 use Rattle.dehn_twist.proofs.CopyPlaces.{lower_across}
@@ -20,10 +20,10 @@ use Rattle.dehn_twist.proofs.LoopWords.{chord_word}
 use Rattle.dehn_twist.proofs.Merged.{Stands, ends_stand, exits_in, is_placed'}
 use Rattle.dehn_twist.proofs.NewCircle.{map-map}
 use Rattle.dehn_twist.proofs.Passing.{placed, placed_place}
-use Rattle.path_words.proofs.CurvePoints.{exit_same, points_partner}
+use Rattle.curve_paths.proofs.CurvePoints.{exit_same, points_partner}
 use Rattle.path_words.proofs.ImageProduct.{image_is, moved, upto}
 use Rattle.drawing.proofs.Placed.{place_in-placed, same_count-placed, side_in-placed}
-use Rattle.path_words.proofs.Reduction.{alike_after, alike_back, alike_join, alike_middle}
+use Rattle.curve_paths.proofs.Reduction.{alike_after, alike_back, alike_join, alike_middle}
 
 abbrev side_of : Exit → ℕ
 side_of e = e.side

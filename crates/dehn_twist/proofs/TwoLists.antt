@@ -8,7 +8,7 @@ use Rattle.obd_base.proofs.lists.Sums.{member_adds}
 use Rattle.page_surface.specs.Drawing.{Chord, no_two_cross}
 use Rattle.drawing.specs.Round.{other_end}
 use Rattle.dehn_twist.proofs.Circle.{TwoKinds}
-use Rattle.path_words.proofs.Crossing.{HasEnds, apart, apart_other}
+use Rattle.curve_paths.proofs.ChordEnds.{HasEnds, apart, apart_other}
 use Rattle.drawing.proofs.Mates.{Joins, chord_cases, chord_here, ends_from, ends_to, other_joins, other_stays, other_twice, pair_uncrossed}
 use Rattle.drawing.proofs.Placed.{ends_at, ends_of}
 

@@ -7,7 +7,7 @@ use Rattle.obd_base.specs.Lists.{below}
 use Rattle.obd_base.specs.declared.points.Exit.{Exit}
 use Rattle.obd_base.proofs.lists.Sums.{sum_below_push}
 use Rattle.page_surface.specs.Drawing.{exit}
-use Rattle.path_words.proofs.Places.{number_same, start_of, starts_rise}
+use Rattle.curve_paths.proofs.PointPlaces.{number_same, start_of, starts_rise}
 
 module _ (slots olds : ℕ → ℕ) (low : ℕ → Bool) where
   -- how many a side has of both

@@ -12,14 +12,14 @@ use Rattle.obd_base.specs.declared.points.Sign.{Sign}
 use Rattle.obd_base.specs.declared.points.Sign.TheVariants.{Plus, Minus}
 use Rattle.page_surface.specs.Drawing.{exit}
 use Rattle.page_surface.specs.Polygon.{Polygon, sides, partner, Pairs}
-use Rattle.path_words.specs.Alphabet.{Alphabet, cancelled, back, Alike, Null}
-use Rattle.path_words.proofs.Reduction.{back-back, back-cons, back-append, alike_after, alike_back, alike_join, pair_out}
+use Rattle.curve_paths.specs.Alphabet.{Alphabet, cancelled, back, Alike, Null}
+use Rattle.curve_paths.proofs.Reduction.{back-back, back-cons, back-append, alike_after, alike_back, alike_join, pair_out}
 use Rattle.path_words.proofs.SideLetters.{side_letters}
 use Rattle.obd_base.proofs.lists.Below.{range_push}
-use Rattle.path_words.proofs.Places.{points_from, points_of, mem_points}
-use Rattle.path_words.proofs.Planar.{Interval, Tells, interval_once}
-use Rattle.path_words.proofs.CurvePoints.{In, Made, leaving, entering, made, mate, mate_exit, mate_entry, following, exit_in, entry-entry, following-less, previous-less, leaves_exit, leaves_entry, enters_entry, points_partner}
-use Rattle.path_words.proofs.CurvePlanar.{curve_planar, all_points}
+use Rattle.curve_paths.proofs.PointPlaces.{points_from, points_of, mem_points}
+use Rattle.curve_paths.proofs.Planar.{Interval, Tells, interval_once}
+use Rattle.curve_paths.proofs.CurvePoints.{In, Made, leaving, entering, made, mate, mate_exit, mate_entry, following, exit_in, entry-entry, following-less, previous-less, leaves_exit, leaves_entry, enters_entry, points_partner}
+use Rattle.curve_paths.proofs.CurvePlanar.{curve_planar, all_points}
 
 -- a product of products
 pub flat_map-flat_map : {A B C : Type 0} (f : B → List C) (g : A → List B) (xs : List A) → flat_map f (flat_map g xs) ≡ flat_map (λ x. flat_map f (g x)) xs

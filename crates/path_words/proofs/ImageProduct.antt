@@ -8,11 +8,11 @@ use Rattle.curve_paths.specs.Curves.{push_at, passed, gap_before, image, IsCurve
 use Rattle.obd_base.specs.declared.points.Exit.{Exit}
 use Rattle.obd_base.specs.declared.points.Sign.{Sign}
 use Rattle.page_surface.specs.Polygon.{Polygon, sides, partner, Pairs}
-use Rattle.path_words.specs.Alphabet.{Alphabet, cancelled, back, Alike, Null}
-use Rattle.path_words.proofs.Reduction.{alike_after, alike_before, alike_join, alike_middle, alike_back, null_out, null_second, pair_out, back_and_word, back-append, back-back, back-cons}
-use Rattle.path_words.proofs.Homs.{hom, Turns}
+use Rattle.curve_paths.specs.Alphabet.{Alphabet, cancelled, back, Alike, Null}
+use Rattle.curve_paths.proofs.Reduction.{alike_after, alike_before, alike_join, alike_middle, alike_back, null_out, null_second, pair_out, back_and_word, back-append, back-back, back-cons}
+use Rattle.curve_paths.proofs.Homs.{hom, Turns}
 use Rattle.path_words.proofs.SideLetters.{AreSides, side_letters}
-use Rattle.path_words.proofs.Places.{range_join}
+use Rattle.curve_paths.proofs.PointPlaces.{range_join}
 use Rattle.path_words.proofs.Passed.{passed_up, passed_round, before_suc, before_zero, before-less}
 use Rattle.path_words.proofs.CurveWords.{once_round, push_across}
 

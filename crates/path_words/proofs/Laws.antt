@@ -11,7 +11,7 @@ use Rattle.page_surface.proofs.WordLaws.{has_reduced_form, one_reduced_form, red
 use Rattle.curve_paths.specs.Curves.{IsCurve, image, push_at}
 use Rattle.path_words.proofs.CurveWords.{once_round as product_once_round}
 use Rattle.path_words.proofs.ImageProduct.{image_alike}
-use Rattle.path_words.proofs.Letters.{from_cancelled}
+use Rattle.curve_paths.proofs.Letters.{from_cancelled}
 use Rattle.path_words.proofs.SideLetters.{AreSides, reduced_is, side_letters}
 use Rattle.path_words.proofs.Stacks.{reduced_again}
 

@@ -6,7 +6,7 @@ use Rattle.std.proofs.Math.Nat.{mod-eq_of_lt, mod-add-mod, add-mod_right}
 use Rattle.curve_paths.specs.Curves.{passed, gap_before}
 use Rattle.obd_base.specs.Lists.{below}
 use Rattle.page_surface.specs.Polygon.{Polygon, sides}
-use Rattle.path_words.proofs.Places.{range_join}
+use Rattle.curve_paths.proofs.PointPlaces.{range_join}
 
 map_shift : (f : ℕ → ℕ) (a b n : ℕ) → ((i : ℕ) → a ≤ i → i < a + n → f i ≡ b + (i - a)) → map f (range_with_len a n) ≡ range_with_len b n
 map_shift f a b zero h = refl

@@ -18,8 +18,8 @@ use Rattle.page_surface.specs.Words.{inverse, push_letter, reduced}
 use Rattle.page_surface.proofs.WordLaws.{Free-reduced, reduced_free}
 use Rattle.curve_paths.specs.Curves.{IsCurve, curve_entry, curve_points, passed, push_at, rho, signed, turned}
 use Rattle.path_words.specs.Pushes.{reduced_pushes}
-use Rattle.path_words.proofs.Letters.{from_back, from_cancelled}
-use Rattle.path_words.proofs.Members.{from_flat_map, mem_get_or}
+use Rattle.curve_paths.proofs.Letters.{from_back, from_cancelled}
+use Rattle.curve_paths.proofs.Members.{from_flat_map, mem_get_or}
 use Rattle.path_words.proofs.SideLetters.{AreSides, reduced_is, side_letters}
 
 -- a push with one point more

@@ -10,9 +10,9 @@ use Rattle.page_surface.specs.Drawing.{exit, is_at}
 use Rattle.page_surface.specs.Polygon.{Pairs, Polygon, partner, sides}
 use Rattle.page_surface.specs.Words.{inverse}
 use Rattle.curve_paths.specs.Curves.{IsCurve, curve_entry, curve_points, rho, turned}
-use Rattle.path_words.proofs.Members.{mem_get_or}
-use Rattle.path_words.proofs.CurvePoints.{Made, enters_entry, entering, leaves_exit, leaving, made, points_partner}
-use Rattle.path_words.proofs.Reduction.{back-back}
+use Rattle.curve_paths.proofs.Members.{mem_get_or}
+use Rattle.curve_paths.proofs.CurvePoints.{Made, enters_entry, entering, leaves_exit, leaving, made, points_partner}
+use Rattle.curve_paths.proofs.Reduction.{back-back}
 use Rattle.path_words.proofs.SideLetters.{side_letters}
 
 -- the exits of a curve leave through sides

@@ -4,7 +4,7 @@ use Rattle.std.proofs.lemmas.Bool.{eqb-true, eq-eqb}
 use Rattle.obd_base.specs.Lists.{Mem}
 use Rattle.page_surface.specs.Polygon.{sides, Polygon, partner, Pairs}
 use Rattle.page_surface.specs.Words.{push_letter, reduced}
-use Rattle.path_words.specs.Alphabet.{Alphabet, push, cancelled}
+use Rattle.curve_paths.specs.Alphabet.{Alphabet, push, cancelled}
 
 -- the letters of the word are sides
 abbrev pub AreSides : Polygon → List ℕ → Type 0

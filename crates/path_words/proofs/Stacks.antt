@@ -9,9 +9,9 @@ use Rattle.obd_base.specs.Lists.{below}
 use Rattle.page_surface.specs.Polygon.{Pairs, Polygon, partner, sides}
 use Rattle.page_surface.specs.Words.{reduced}
 use Rattle.page_surface.proofs.WordLaws.{Free, Free-reduced, reduced_free, reduced_step_at}
-use Rattle.path_words.specs.Alphabet.{cancelled}
+use Rattle.curve_paths.specs.Alphabet.{cancelled}
 use Rattle.path_words.proofs.Reducing.{Free-front, Free-push_back}
-use Rattle.path_words.proofs.Reduction.{cancelled-first}
+use Rattle.curve_paths.proofs.Reduction.{cancelled-first}
 use Rattle.path_words.proofs.SideLetters.{reduced_is, side_letters}
 
 -- a reduced form is its own

@@ -10,10 +10,10 @@ use Rattle.page_surface.specs.Polygon.{IsPolygon, Polygon, first_side, partner, 
 use Rattle.page_surface.specs.Words.{reduced}
 use Rattle.page_surface.proofs.WordLaws.{Free-reduced, reduced_free}
 use Rattle.curve_paths.specs.Curves.{gap_before, image, passed, push_at, twisted, with_words}
-use Rattle.path_words.specs.Alphabet.{Alike, Alphabet, cancelled}
+use Rattle.curve_paths.specs.Alphabet.{Alike, Alphabet, cancelled}
 use Rattle.path_words.specs.Pushes.{push_of, reduced_pushes, strand_with, strands_with}
 use Rattle.path_words.proofs.PushWords.{length_product, passed_in_range, table_product}
-use Rattle.path_words.proofs.Reduction.{alike_after, alike_cancelled, alike_join}
+use Rattle.curve_paths.proofs.Reduction.{alike_after, alike_cancelled, alike_join}
 use Rattle.path_words.proofs.SideLetters.{reduced_is, side_letters}
 
 module _ (p : Polygon) (ok : IsPolygon p) where

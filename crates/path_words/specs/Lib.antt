@@ -1,2 +1,1 @@
-pub mod Alphabet
 pub mod Pushes

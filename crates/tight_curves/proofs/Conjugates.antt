@@ -1,11 +1,11 @@
 -- Words that are one another's conjugates, up to reduction; two of them that are free read round are rotations of each other.
 use Rattle.std.proofs.Common.{◌≡◌, Bool, true, false, List, [], ◌∷◌, ◌++◌, refl, sym, ◌∙◌, ap, subst, append_assoc, append-nil}
 use Rattle.std.proofs.lemmas.List.{same_from_push}
-use Rattle.path_words.specs.Alphabet.{Alphabet, cancelled, back, Alike, Null}
+use Rattle.curve_paths.specs.Alphabet.{Alphabet, cancelled, back, Alike, Null}
 use Rattle.tight_curves.specs.Closed.{IsRotation}
 use Rattle.tight_curves.proofs.Rotations.{last_letter, rotation_refl, rotation_on, rotation_off}
 use Rattle.tight_curves.proofs.FreeWords.{RoundFree, apart, clear_cons, free_join, free_back, round_free_on, round_free_off}
-use Rattle.path_words.proofs.Reduction.{Free, Free-cancelled, cancelled_free, alike_after, alike_join, alike_middle, alike_back, alike_cancelled, null_out, pair_out, back-cons, back-append, back-back, word_and_back, back_and_word}
+use Rattle.curve_paths.proofs.Reduction.{Free, Free-cancelled, cancelled_free, alike_after, alike_join, alike_middle, alike_back, alike_cancelled, null_out, pair_out, back-cons, back-append, back-back, word_and_back, back_and_word}
 
 module _ {A : Type 0} (L : Alphabet A) where
   -- u reduces to what the inverse of h, v and h reduce to

@@ -8,15 +8,15 @@ use Rattle.obd_base.proofs.lists.Members.{mem_right}
 use Rattle.page_surface.specs.Polygon.{Pairs, Polygon, partner, sides}
 use Rattle.page_surface.specs.Words.{Steps, none, more, inverse, reduced}
 use Rattle.page_surface.proofs.WordLaws
-use Rattle.path_words.specs.Alphabet.{Alphabet, cancelled, back}
+use Rattle.curve_paths.specs.Alphabet.{Alphabet, cancelled, back}
 use Rattle.path_words.proofs.SideLetters.{AreSides, reduced_is, side_letters}
 use Rattle.tight_curves.specs.Closed.{CyclicStep, CyclicSteps, EndStep, HasNoCyclicPair, IsCyclicForm, IsRotation, cyclic_form, shared, trimmed}
 use Rattle.tight_curves.specs.Closed as C
 use Rattle.tight_curves.proofs.Rotations.{last_letter, not_empty_push, same_cons}
 use Rattle.tight_curves.proofs.FreeWords.{RoundFree, apart, free_first}
 use Rattle.tight_curves.proofs.Conjugates.{Conjugate, conjugate_alike, conjugate_rotation, conjugate_sym, conjugate_trans, conjugates_rotate}
-use Rattle.path_words.proofs.Letters.{from_cancelled}
-use Rattle.path_words.proofs.Reduction.{Free, pair_out, back-cons, back-append, back-back}
+use Rattle.curve_paths.proofs.Letters.{from_cancelled}
+use Rattle.curve_paths.proofs.Reduction.{Free, pair_out, back-cons, back-append, back-back}
 
 module _ (p : Polygon) (ok : Pairs p) where
   -- the sides as letters

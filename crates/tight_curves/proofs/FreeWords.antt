@@ -2,9 +2,9 @@
 use Rattle.std.proofs.Common.{◌≡◌, Bool, true, false, List, [], ◌∷◌, ◌++◌, refl, sym, ◌∙◌, ap, subst, append_assoc}
 use Rattle.std.proofs.lemmas.Bool.{false≢true}
 use Rattle.std.proofs.lemmas.List.{same_from_push}
-use Rattle.path_words.specs.Alphabet.{Alphabet, back}
+use Rattle.curve_paths.specs.Alphabet.{Alphabet, back}
 use Rattle.tight_curves.proofs.Rotations.{not_empty_push, same_cons}
-use Rattle.path_words.proofs.Reduction.{Clear, Free, back-cons}
+use Rattle.curve_paths.proofs.Reduction.{Clear, Free, back-cons}
 
 module _ {A : Type 0} (L : Alphabet A) where
   -- letters that differ are told apart

@@ -7,9 +7,9 @@ use Rattle.page_surface.specs.Polygon.{Pairs, Polygon, partner}
 use Rattle.curve_paths.specs.Curves.{IsCurve, curve_points, exit_at, previous}
 use Rattle.tight_curves.specs.Parts.{IsPart, has_point, part_chord}
 use Rattle.tight_curves.proofs.PartPoints.{In, Made, N, entering, entries_differ, exit_in, exit_no_entry, exits_differ, has_across, leaving, made, other, other_in, same_number}
-use Rattle.path_words.proofs.CurvePoints.{exit_same, following, following-less, following-previous, points_partner, previous-following, previous-less}
-use Rattle.path_words.proofs.Crossing.{apart, chord}
-use Rattle.path_words.proofs.Places.{less_number}
+use Rattle.curve_paths.proofs.CurvePoints.{exit_same, following, following-less, following-previous, points_partner, previous-following, previous-less}
+use Rattle.curve_paths.proofs.ChordEnds.{apart, chord}
+use Rattle.curve_paths.proofs.PointPlaces.{less_number}
 
 -- a test passes at some number below a bound, or at none
 pub search_below : (test : ℕ → Bool) (m : ℕ) → ((j : ℕ) × (j < m) × (test j ≡ true)) ⊎ ((j : ℕ) → j < m → test j ≡ false)

@@ -2,7 +2,7 @@
 use Rattle.std.proofs.Common.{◌≡◌, ℕ, ◌<◌, Bool, true, false, ltb, not, refl, sym, ◌∙◌, subst, ◌⊎◌, inl, inr, ◌≢◌, arith}
 use Rattle.std.proofs.lemmas.Bool.{true≢false, lt-ltb, le-ltb, cases_lt}
 use Rattle.page_surface.specs.Drawing.{Chord, beyond, crosses, differ}
-use Rattle.path_words.proofs.Crossing.{chord}
+use Rattle.curve_paths.proofs.ChordEnds.{chord}
 
 -- a number that isn't one of u and v, nor between them
 abbrev pub Outside : ℕ → ℕ → ℕ → Type 0

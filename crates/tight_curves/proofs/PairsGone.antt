@@ -4,9 +4,9 @@ use Rattle.std.specs.List.{flat_map, range_with_len}
 use Rattle.std.proofs.lemmas.List.Concat.{flat_map-append}
 use Rattle.obd_base.specs.Lists.{Mem, below}
 use Rattle.obd_base.proofs.lists.Below.{mem_range, range_push}
-use Rattle.path_words.specs.Alphabet.{Alphabet, cancelled, Alike, Null}
-use Rattle.path_words.proofs.Places.{range_join}
-use Rattle.path_words.proofs.Reduction.{alike_join, null_out}
+use Rattle.curve_paths.specs.Alphabet.{Alphabet, cancelled, Alike, Null}
+use Rattle.curve_paths.proofs.PointPlaces.{range_join}
+use Rattle.curve_paths.proofs.Reduction.{alike_join, null_out}
 
 module _ {A X : Type 0} (L : Alphabet A) where
   -- products of factors with one reduced form

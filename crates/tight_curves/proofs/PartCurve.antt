@@ -20,10 +20,10 @@ use Rattle.tight_curves.proofs.PartPlaces.{alone_partner, met, moved, moved_in, 
 use Rattle.tight_curves.proofs.PartPoints.{In, Made, N, entering, exit_in, has_entry, has_exit, leaving, other, other_in, same_number, some_part, standing, stands_in, stands_out}
 use Rattle.tight_curves.proofs.PartPoints as P
 use Rattle.tight_curves.proofs.PartWords.{push_part, word_at, word_entry, word_exit, word_none}
-use Rattle.path_words.proofs.CurvePoints.{exit_same, points_partner, previous-less}
+use Rattle.curve_paths.proofs.CurvePoints.{exit_same, points_partner, previous-less}
 use Rattle.path_words.proofs.CurveWords.{read_entry, read_exit}
-use Rattle.path_words.proofs.Crossing.{chord}
-use Rattle.path_words.proofs.Places.{less_number}
+use Rattle.curve_paths.proofs.ChordEnds.{chord}
+use Rattle.curve_paths.proofs.PointPlaces.{less_number}
 
 -- a product over numbers of which only those that pass have a factor, numbered among these
 pub product_passing : {A : Type 0} (t : ℕ → Bool) (f g : ℕ → List A) (m : ℕ) → ((j : ℕ) → j < m → t j ≡ false → f j ≡ []) → ((j : ℕ) → j < m → t j ≡ true → f j ≡ g (count_by t (below j)))

@@ -11,9 +11,9 @@ use Rattle.curve_paths.specs.Curves.{IsCurve, curve_points, curve_stands, exit_a
 use Rattle.tight_curves.specs.Parts.{IsInnermost, IsPart, has_point, part_chord}
 use Rattle.tight_curves.proofs.Numbers.{Outside, crosses_joined, joined_crosses}
 use Rattle.tight_curves.proofs.PartPoints.{In, N, other, exit_in, other_in, exits_differ, entries_differ, exit_no_entry, has_exit, has_entry}
-use Rattle.path_words.proofs.CurvePoints.{exit_same, following, following-less, following-previous, previous-following, previous-less}
-use Rattle.path_words.proofs.Crossing.{chord}
-use Rattle.path_words.proofs.Places.{less_number}
+use Rattle.curve_paths.proofs.CurvePoints.{exit_same, following, following-less, following-previous, previous-following, previous-less}
+use Rattle.curve_paths.proofs.ChordEnds.{chord}
+use Rattle.curve_paths.proofs.PointPlaces.{less_number}
 
 -- the exits of a list read from its second one on
 pub round_at : (e : Exit) (t : List Exit) (i : ℕ) → i < length (e ∷ t) → exit_at (t ++ (e ∷ [])) i ≡ exit_at (e ∷ t) (following (length (e ∷ t)) i)

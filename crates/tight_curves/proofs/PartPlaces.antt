@@ -12,7 +12,7 @@ use Rattle.page_surface.specs.Polygon.{Pairs, Polygon, partner, sides}
 use Rattle.curve_paths.specs.Curves.{IsCurve, curve_entry, curve_points, curve_stands}
 use Rattle.tight_curves.specs.Parts.{IsPart, has_point, part_exits, place_among}
 use Rattle.tight_curves.proofs.PartPoints.{In, has_across, other}
-use Rattle.path_words.proofs.CurvePoints.{points_partner}
+use Rattle.curve_paths.proofs.CurvePoints.{points_partner}
 
 -- equations that hold together are told alike
 pub same_test : (a b x y : ℕ) → (a ≡ b → x ≡ y) → (x ≡ y → a ≡ b) → eqb a b ≡ eqb x y

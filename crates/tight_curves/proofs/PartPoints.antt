@@ -9,9 +9,9 @@ use Rattle.page_surface.specs.Drawing.{exit, is_at}
 use Rattle.page_surface.specs.Polygon.{Pairs, Polygon, partner, sides}
 use Rattle.curve_paths.specs.Curves.{IsCurve, curve_entry, curve_points, curve_spot, curve_stands, exit_at}
 use Rattle.tight_curves.specs.Parts.{IsPart, has_point}
-use Rattle.path_words.proofs.CurvePoints.{at_itself, at_parts, entry_in, entry-entry, exit_same, points_partner}
-use Rattle.path_words.proofs.Members.{mem_get_or}
-use Rattle.path_words.proofs.Places.{number_same}
+use Rattle.curve_paths.proofs.CurvePoints.{at_itself, at_parts, entry_in, entry-entry, exit_same, points_partner}
+use Rattle.curve_paths.proofs.Members.{mem_get_or}
+use Rattle.curve_paths.proofs.PointPlaces.{number_same}
 
 -- a sum with a part has a member that adds
 pub some_part : {A : Type 0} (s : A → ℕ) (d : A) (xs : List A) → 0 < sum_by s xs → (i : ℕ) × (i < length xs) × (1 ≤ s (get_or xs i d))

@@ -11,7 +11,7 @@ use Rattle.page_surface.specs.Drawing.{exit, is_at}
 use Rattle.page_surface.specs.Polygon.{Pairs, Polygon, partner, sides}
 use Rattle.page_surface.specs.Words.{inverse}
 use Rattle.curve_paths.specs.Curves.{IsCurve, curve_entry, curve_points, curve_stands, signed, turned}
-use Rattle.path_words.specs.Alphabet.{Alphabet, cancelled, back, Alike, Null}
+use Rattle.curve_paths.specs.Alphabet.{Alphabet, cancelled, back, Alike, Null}
 use Rattle.path_words.proofs.SideLetters.{side_letters}
 use Rattle.tight_curves.specs.Closed.{word_of}
 use Rattle.tight_curves.specs.Parts.{IsInnermost, IsPart, has_point}
@@ -19,8 +19,8 @@ use Rattle.tight_curves.proofs.PairsGone.{flat_alike, pair_gone}
 use Rattle.tight_curves.proofs.PartMoves.{part_less}
 use Rattle.tight_curves.proofs.PartPoints.{In, exit_no_entry, has_across, standing, stands_in, stands_out}
 use Rattle.tight_curves.proofs.PartWords.{push_part, term, term_none, word_at, word_entry, word_exit, word_none, words_from}
-use Rattle.path_words.proofs.CurvePoints.{exit_same, points_partner}
-use Rattle.path_words.proofs.Reduction.{alike_after, alike_back, alike_before, alike_join, back_and_word, pair_out, word_and_back}
+use Rattle.curve_paths.proofs.CurvePoints.{exit_same, points_partner}
+use Rattle.curve_paths.proofs.Reduction.{alike_after, alike_back, alike_before, alike_join, back_and_word, pair_out, word_and_back}
 
 module _ (p : Polygon) (ok : Pairs p) where
   abbrev pub L : Alphabet ℕ

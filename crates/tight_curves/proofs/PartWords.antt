@@ -11,12 +11,12 @@ use Rattle.page_surface.specs.Drawing.{exit, is_at}
 use Rattle.page_surface.specs.Polygon.{Pairs, Polygon, partner, sides}
 use Rattle.page_surface.specs.Words.{inverse}
 use Rattle.curve_paths.specs.Curves.{IsCurve, curve_entry, curve_points, curve_stands, exit_at, signed, turned}
-use Rattle.path_words.specs.Alphabet.{Alphabet}
+use Rattle.curve_paths.specs.Alphabet.{Alphabet}
 use Rattle.path_words.proofs.SideLetters.{side_letters}
 use Rattle.tight_curves.specs.Closed.{word_of}
 use Rattle.tight_curves.specs.Parts.{IsPart}
 use Rattle.tight_curves.proofs.PartPoints.{In, other, exit_in, other_in, stands_in, stands_out}
-use Rattle.path_words.proofs.CurvePoints.{at_itself, at_parts}
+use Rattle.curve_paths.proofs.CurvePoints.{at_itself, at_parts}
 
 -- a word read from its second letter on, from each later letter
 pub turned_on : (x : ℕ) (w : List ℕ) (i : ℕ) → i ≤ length w → turned i (w ++ (x ∷ [])) ≡ turned (suc i) (x ∷ w)

@@ -10,7 +10,7 @@ use Rattle.obd_base.proofs.lists.Sums.{count_below, sum_add, sum_none, sum_same,
 use Rattle.page_surface.specs.Drawing.{exit, is_at}
 use Rattle.page_surface.specs.Polygon.{Pairs, Polygon, partner}
 use Rattle.curve_paths.specs.Curves.{IsCurve, curve_points, curve_stands}
-use Rattle.path_words.proofs.CurvePoints.{points_partner}
+use Rattle.curve_paths.proofs.CurvePoints.{points_partner}
 use Rattle.tight_curves.specs.Parts.{IsPart, has_point, place_among}
 use Rattle.tight_curves.specs.Turns.{makes_before, place_by_exits}
 use Rattle.tight_curves.proofs.PartPlaces.{met, same_test}

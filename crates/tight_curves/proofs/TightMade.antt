@@ -8,7 +8,7 @@ use Rattle.obd_base.proofs.lists.Members.{mem_map}
 use Rattle.page_surface.specs.Polygon.{Pairs, Polygon, first_side, partner, second_side, sides}
 use Rattle.page_surface.specs.Words.{reduced}
 use Rattle.curve_paths.specs.Curves.{IsCurve, gap_before, image, passed, push_at, twisted}
-use Rattle.path_words.specs.Alphabet.{cancelled, Alike}
+use Rattle.curve_paths.specs.Alphabet.{cancelled, Alike}
 use Rattle.path_words.proofs.SideLetters.{AreSides, reduced_is}
 use Rattle.tight_curves.specs.Closed.{HasNoCyclicPair, IsRotation, cyclic_form, word_of}
 use Rattle.tight_curves.specs.Parts.{MadeTight, TurnsTaken, part_exits}
@@ -18,7 +18,7 @@ use Rattle.tight_curves.proofs.PairsGone.{flat_alike}
 use Rattle.tight_curves.proofs.PartCurve.{part_curve, push_alone, word_alone}
 use Rattle.tight_curves.proofs.TurnsOut.{taken_part, taken_pushes, taken_words}
 use Rattle.tight_curves.proofs.WholeCurve.{push_whole, whole_part}
-use Rattle.path_words.proofs.Reduction.{alike_after, alike_join}
+use Rattle.curve_paths.proofs.Reduction.{alike_after, alike_join}
 
 module _ (p : Polygon) (ok : Pairs p) where
   -- the letters of a curve's word are sides

@@ -7,7 +7,7 @@ use Rattle.obd_base.specs.declared.points.Exit.{Exit}
 use Rattle.page_surface.specs.Drawing.{exit}
 use Rattle.page_surface.specs.Polygon.{IsPolygon, Polygon, partner}
 use Rattle.curve_paths.specs.Curves.{IsCurve, curve_points, exit_at}
-use Rattle.path_words.proofs.CurvePoints.{points_partner}
+use Rattle.curve_paths.proofs.CurvePoints.{points_partner}
 use Rattle.tight_curves.specs.Closed.{HasNoCyclicPair, word_of}
 use Rattle.tight_curves.specs.Parts.{IsPart}
 use Rattle.tight_curves.specs.Turns.{IsTurnAt, after, is_turn_at, turns_back}

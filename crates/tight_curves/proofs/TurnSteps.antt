@@ -7,7 +7,7 @@ use Rattle.obd_base.specs.declared.points.Exit.{Exit}
 use Rattle.page_surface.specs.Drawing.{exit}
 use Rattle.page_surface.specs.Polygon.{IsPolygon, Polygon, partner}
 use Rattle.curve_paths.specs.Curves.{IsCurve, exit_at}
-use Rattle.path_words.proofs.CurvePoints.{following-less}
+use Rattle.curve_paths.proofs.CurvePoints.{following-less}
 use Rattle.tight_curves.specs.Closed.{HasNoCyclicPair, word_of}
 use Rattle.tight_curves.specs.Parts.{IsInnermost, IsPart, MadeTight, TurnsTaken, no_more, part_exits}
 use Rattle.tight_curves.specs.Turns.{IsLoosened, IsTurnAt, after, is_turn_at, without_turn}

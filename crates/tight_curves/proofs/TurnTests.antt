@@ -7,7 +7,7 @@ use Rattle.obd_base.specs.declared.points.Exit.{Exit}
 use Rattle.page_surface.specs.Drawing.{exit}
 use Rattle.page_surface.specs.Polygon.{Pairs, Polygon, partner, sides}
 use Rattle.curve_paths.specs.Curves.{IsCurve, curve_points, exit_at}
-use Rattle.path_words.proofs.CurvePoints.{following, following-less, points_partner}
+use Rattle.curve_paths.proofs.CurvePoints.{following, following-less, points_partner}
 use Rattle.tight_curves.specs.Closed.{HasNoCyclicPair, word_of}
 use Rattle.tight_curves.specs.Parts.{IsInnermost, IsPart, has_point}
 use Rattle.tight_curves.specs.Turns.{is_between, is_turn_at, leaves_between, turns_back}

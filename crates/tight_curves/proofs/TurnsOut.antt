@@ -9,7 +9,7 @@ use Rattle.obd_base.proofs.lists.Below.{mem_below}
 use Rattle.page_surface.specs.Drawing.{exit}
 use Rattle.page_surface.specs.Polygon.{Pairs, Polygon, partner, sides}
 use Rattle.curve_paths.specs.Curves.{IsCurve, curve_points, exit_at}
-use Rattle.path_words.specs.Alphabet.{cancelled, Alike}
+use Rattle.curve_paths.specs.Alphabet.{cancelled, Alike}
 use Rattle.tight_curves.specs.Closed.{HasNoCyclicPair}
 use Rattle.tight_curves.specs.Closed.{word_of}
 use Rattle.tight_curves.specs.Parts.{IsPart, TurnsTaken, no_more, one_more, read_on}
@@ -19,8 +19,8 @@ use Rattle.tight_curves.proofs.PartMoves.{part_less, part_on}
 use Rattle.tight_curves.proofs.PartPushes.{push_less}
 use Rattle.tight_curves.proofs.PartWords.{push_part, word_on}
 use Rattle.tight_curves.proofs.WholeCurve.{flat_equal}
-use Rattle.path_words.proofs.CurvePoints.{following}
-use Rattle.path_words.proofs.Reduction.{pair_out}
+use Rattle.curve_paths.proofs.CurvePoints.{following}
+use Rattle.curve_paths.proofs.Reduction.{pair_out}
 
 module _ (p : Polygon) (ok : Pairs p) (c : List Exit) (curve : IsCurve p c) where
   -- what comes from a part is a part

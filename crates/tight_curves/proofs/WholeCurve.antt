@@ -15,8 +15,8 @@ use Rattle.tight_curves.specs.Parts.{IsPart, part_chord}
 use Rattle.tight_curves.proofs.Numbers.{cross_turned}
 use Rattle.tight_curves.proofs.PartPoints.{same_number}
 use Rattle.tight_curves.proofs.PartWords.{push_part, word_at, word_entry, word_exit}
-use Rattle.path_words.proofs.CurvePoints as C
-use Rattle.path_words.proofs.CurvePoints.{Made, entering, entry_in, exit_in, following, following-previous, leaving, made, previous-less}
+use Rattle.curve_paths.proofs.CurvePoints as C
+use Rattle.curve_paths.proofs.CurvePoints.{Made, entering, entry_in, exit_in, following, following-previous, leaving, made, previous-less}
 use Rattle.path_words.proofs.CurveWords.{read_entry, read_exit}
 
 -- products of equal factors

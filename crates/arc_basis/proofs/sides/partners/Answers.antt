@@ -1,4 +1,4 @@
-use Rattle.std.proofs.Common.{◌-◌, sym, ap, ◌∙◌, arith, length}
+use Rattle.std.proofs.Common.{sym, ap, ◌∙◌, arith, length}
 use Rattle.std.proofs.lemmas.Option.{same_Some}
 use Rattle.arc_basis.proofs.Places.{map_more, mem_read}
 use Rattle.arc_basis.proofs.Tables.{found_side, length-side_table, some_there}
@@ -17,11 +17,9 @@ side_in-other-requires-clause-second c =
 
 pub unwrap-requires : goal.unwrap-requires
 unwrap-requires c =
-    let named = c.requires.named _ (mem_read _ _ _ c.loop-side-test.true c.side-item.is) in
-    some_there _ _ (c.side_in-other.ensures ∙ found_side _ _ _ _ c.requires _ (1 - c.side-item.result.occurrence) named.0 (omega arith))
+    some_there _ _ (c.side_in-other.ensures ∙ found_side _ _ _ _ c.requires _ (mem_read _ _ _ c.loop-side-test.true c.side-item.is))
 
 pub loop-side-preserved : goal.loop-side-preserved
 loop-side-preserved c =
-    let named = c.requires.named _ (mem_read _ _ _ c.loop-side-test.true c.side-item.is) in
-    let there = c.side_in-other.ensures ∙ found_side _ _ _ _ c.requires _ (1 - c.side-item.result.occurrence) named.0 (omega arith) in
+    let there = c.side_in-other.ensures ∙ found_side _ _ _ _ c.requires _ (mem_read _ _ _ c.loop-side-test.true c.side-item.is) in
     map_more _ _ _ _ _ _ _ c.loop-side-test.true c.side-item.is c.loop-side.invariant c.in_ok-push.ensures.items (same_Some _ _ (sym c.unwrap.ensures ∙ there))

@@ -1,5 +1,5 @@
 use Rattle.std.proofs.Common.{arith}
-use Rattle.arc_basis.proofs.Tables.{firsts_long, seconds_long, read_is, none_is_seam}
+use Rattle.arc_basis.proofs.Laws.{firsts_long, seconds_long, read_is, none_is_seam}
 use Rattle.arc_basis.proofs.basis.Basis.side.Goals as goal
 
 pub side_in-requires-clause-first : goal.side_in-requires-clause-first

@@ -5,10 +5,10 @@ use Rattle.curve_paths.specs.Curves.{curve_points, curve_entry, curve_spot, exit
 use Rattle.obd_base.specs.declared.points.Exit.{Exit}
 use Rattle.page_surface.specs.Drawing.{Chord}
 use Rattle.page_surface.specs.Polygon.{Polygon, sides, Pairs}
-use Rattle.path_words.proofs.Places.{number_same, points_of, points_rise, mem_points, from_points}
-use Rattle.path_words.proofs.Planar.{Planar, Interval}
-use Rattle.path_words.proofs.Crossing.{HasEnds, apart, apart_other}
-use Rattle.path_words.proofs.CurvePoints.{In, exit_in, entry_in, Made, leaving, entering, made, mate, mate_exit, mate_entry, following, following-less, previous-less, previous-following, following-previous, exit_no_entry}
+use Rattle.curve_paths.proofs.PointPlaces.{number_same, points_of, points_rise, mem_points, from_points}
+use Rattle.curve_paths.proofs.Planar.{Planar, Interval}
+use Rattle.curve_paths.proofs.ChordEnds.{HasEnds, apart, apart_other}
+use Rattle.curve_paths.proofs.CurvePoints.{In, exit_in, entry_in, Made, leaving, entering, made, mate, mate_exit, mate_entry, following, following-less, previous-less, previous-following, following-previous, exit_no_entry}
 
 module _ (p : Polygon) (ok : Pairs p) (c : List Exit) (curve : IsCurve p c) where
   abbrev In' : Exit → Type 0

@@ -1,8 +1,9 @@
 -- Words put in place of letters so that inverse letters get inverse words: the reduced form is respected.
-use Rattle.std.proofs.Common.{◌≡◌, Bool, true, false, cond, List, [], ◌∷◌, ◌++◌, refl, sym, ◌∙◌, ap, subst, append_assoc, inl, inr}
+use Rattle.std.proofs.Common.{◌≡◌, Bool, true, false, cond, List, [], ◌∷◌, ◌++◌, map, refl, sym, ◌∙◌, ap, subst, append_assoc, inl, inr}
 use Rattle.std.specs.List.{flat_map}
-use Rattle.path_words.specs.Alphabet.{Alphabet, push, cancelled, back, Alike}
-use Rattle.path_words.proofs.Reduction.{alike_after, null_out, word_and_back}
+use Rattle.std.proofs.lemmas.List.Concat.{flat_map_single}
+use Rattle.curve_paths.specs.Alphabet.{Alphabet, push, cancelled, back, Alike}
+use Rattle.curve_paths.proofs.Reduction.{alike_after, null_out, word_and_back}
 use Rattle.obd_base.specs.Lists.{Mem}
 
 module _ {A B : Type 0} (L : Alphabet A) (K : Alphabet B) (f : A → List B) where
@@ -32,3 +33,10 @@ module _ {A B : Type 0} (L : Alphabet A) (K : Alphabet B) (f : A → List B) whe
   -- words with one reduced form get words with one reduced form
   pub hom : (u v : List A) → ((x : A) → Mem x u → Turns x) → ((x : A) → Mem x v → Turns x) → Alike L u v → Alike K (flat_map f u) (flat_map f v)
   hom u v s t h = sym (hom_cancelled u s) ∙ (ap (λ z. cancelled K (flat_map f z)) h ∙ hom_cancelled v t)
+
+module _ {A B : Type 0} (L : Alphabet A) (K : Alphabet B) (f : A → B) where
+  -- a renaming that takes inverses to inverses respects the reduced form
+  pub alike_renamed : ((x : A) → f (L.inv x) ≡ K.inv (f x)) → (u v : List A) → Alike L u v → Alike K (map f u) (map f v)
+  alike_renamed h u v e =
+      let t = λ (x : A). let q : cancelled K (f (L.inv x) ∷ []) ≡ cancelled K (K.inv (f x) ∷ []) = ap (λ z. z ∷ []) (h x) in q in
+      sym (ap (cancelled K) (flat_map_single f u)) ∙ (hom L K (λ x. f x ∷ []) u v (λ x m. t x) (λ x m. t x) e ∙ ap (cancelled K) (flat_map_single f v))

@@ -5,7 +5,7 @@ use Rattle.std.proofs.lemmas.Bool.{eqb-true, eq-eqb, ne_eqb, and_parts, and_from
 use Rattle.std.proofs.lemmas.List.Sums.{sum_by-cons, sum_by_more_le, get_or-le-sum_by, position_or_len_is}
 use Rattle.std.proofs.lemmas.List.{get_or-take, length-take}
 use mathlib.Core.Path.{fun_ext}
-use Rattle.path_words.proofs.Members.{mem_get_or}
+use Rattle.curve_paths.proofs.Members.{mem_get_or}
 use Rattle.curve_paths.specs.Curves.{curve_points, curve_entry, curve_stands, exit_at, previous, IsCurve}
 use Rattle.obd_base.specs.declared.points.Exit.{Exit}
 use Rattle.page_surface.specs.Drawing.{exit, is_at}

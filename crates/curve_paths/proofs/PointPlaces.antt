@@ -8,7 +8,7 @@ use Rattle.obd_base.specs.declared.points.Exit.{Exit}
 use Rattle.page_surface.specs.Drawing.{exit}
 use Rattle.obd_base.proofs.lists.Below.{mem_range, range_mem, range_push}
 use Rattle.obd_base.proofs.lists.Members.{mem_map}
-use Rattle.path_words.proofs.Members.{Rises, rises_join, mem_to_map, mem_flat_map, from_flat_map}
+use Rattle.curve_paths.proofs.Members.{Rises, rises_join, mem_to_map, mem_flat_map, from_flat_map}
 
 -- a range in two parts
 pub range_join : (a m n : ℕ) → range_with_len a (m + n) ≡ range_with_len a m ++ range_with_len (a + m) n

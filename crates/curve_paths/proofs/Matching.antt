@@ -1,11 +1,15 @@
 -- A word that reduces to nothing pairs its letters off without crossing.
 use Rattle.std.proofs.Common.{◌≡◌, ℕ, zero, suc, ◌<◌, ◌≤◌, Bool, true, false, cond, List, [], ◌∷◌, ◌++◌, map, length, refl, sym, ◌∙◌, ap, subst, inl, inr, arith, append_assoc, length-append}
+use Rattle.std.specs.List.{filter}
+use Rattle.std.proofs.lemmas.Bool.{false≢true}
 use Rattle.std.proofs.lemmas.List.{map-append}
+use Rattle.std.proofs.lemmas.List.Concat.{flat_map_single}
 use Rattle.obd_base.proofs.lists.Members.{mem_append, mem_left, mem_right}
 use Rattle.obd_base.specs.Lists.{Mem}
-use Rattle.path_words.proofs.Members.{Rises, rises_across, rises_first, rises_second}
-use Rattle.path_words.proofs.Reduction.{null_out, pair_out}
-use Rattle.path_words.specs.Alphabet.{Alphabet, Null, cancelled, push}
+use Rattle.curve_paths.proofs.Members.{Rises, rises_across, rises_first, rises_second}
+use Rattle.curve_paths.proofs.Planar.{Interval, Planar, Tells, interval_once}
+use Rattle.curve_paths.proofs.Reduction.{null_out, pair_out}
+use Rattle.curve_paths.specs.Alphabet.{Alike, Alphabet, Null, cancelled, push}
 
 module _ {P A : Type 0} (L : Alphabet A) (letter : P → A) where
   -- points whose first part reduces to nothing, then a point, then the rest
@@ -164,3 +168,21 @@ module _ {P A : Type 0} (L : Alphabet A) (letter : P → A) where
         let gb = good_from_null n b lb (rises_second spot a (m ∷ b) h'.1).1 (λ z q. t z (inr (back_to z (mem_right z a (m ∷ b) (inr q)))))
         (λ z y q r. d z y (inr (back_to z (mem_right z a (m ∷ b) (inr q)))) (inr (back_to y (mem_right y a (m ∷ b) (inr r))))) k.rest_is in
         subst (λ z. Good (x ∷ z)) (sym k.whole) (good_join x m a b is_mate (ap mate is_mate ∙ t x (inl refl)) h' ga gb)
+
+module _ {P A : Type 0} (In : P → Type 0) (spot : P → ℕ) (mate : P → P) (planar : Planar In spot mate) (L : Alphabet A) (letter : P → A)
+    (turns : (x : P) → In x → letter (mate x) ≡ L.inv (letter x)) where
+  once_letters : (away : P → Bool) (xs : List P) → Interval In spot mate planar xs → Tells In spot mate planar away xs
+      → Alike L (map letter xs) (map letter (filter away xs))
+  once_letters away xs h t =
+      ap (cancelled L) (sym (flat_map_single letter xs))
+      ∙ (interval_once In spot mate planar L (λ x. letter x ∷ []) (length xs) away xs (omega arith) h t (λ x m k. ap (λ z. z ∷ []) (turns x (h.inside x m)))
+      ∙ ap (cancelled L) (flat_map_single letter (filter away xs)))
+
+  nothing_kept : (xs : List P) → filter (λ x. false) xs ≡ []
+  nothing_kept [] = refl
+  nothing_kept (x ∷ xs) = nothing_kept xs
+
+  -- where the pairing does not cross, the letters of a closed interval reduce to nothing
+  pub null_closed : (xs : List P) → Interval In spot mate planar xs → ((x : P) → Mem x xs → Mem (mate x) xs) → Null L (map letter xs)
+  null_closed xs h s =
+      once_letters (λ x. false) xs h (record { far = λ x m q k. false≢true q; near = λ x m q. s x m }) ∙ ap (λ z. cancelled L (map letter z)) (nothing_kept xs)

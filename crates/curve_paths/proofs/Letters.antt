@@ -2,8 +2,8 @@
 use Rattle.std.proofs.Common.{◌≡◌, Bool, true, false, cond, List, [], ◌∷◌, refl, subst, inl, inr}
 use Rattle.obd_base.specs.Lists.{Mem}
 use Rattle.obd_base.proofs.lists.Members.{mem_append}
-use Rattle.path_words.specs.Alphabet.{Alphabet, push, cancelled, back}
-use Rattle.path_words.proofs.Reduction.{back-cons}
+use Rattle.curve_paths.specs.Alphabet.{Alphabet, push, cancelled, back}
+use Rattle.curve_paths.proofs.Reduction.{back-cons}
 
 module _ {A : Type 0} (L : Alphabet A) where
   mem_push : (x z : A) (w : List A) → Mem z (push L x w) → Mem z (x ∷ w)

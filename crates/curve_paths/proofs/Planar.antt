@@ -6,9 +6,9 @@ use Rattle.std.proofs.lemmas.List.Concat.{flat_map-append}
 use Rattle.std.proofs.lemmas.List.Elements.{filter-append}
 use Rattle.obd_base.proofs.lists.Members.{mem_append, mem_left, mem_right, split}
 use Rattle.obd_base.specs.Lists.{Mem}
-use Rattle.path_words.specs.Alphabet.{Alphabet, cancelled, back, Alike, Null}
-use Rattle.path_words.proofs.Reduction.{alike_after, null_out, word_and_back}
-use Rattle.path_words.proofs.Members.{Rises, rises_first, rises_second, rises_across}
+use Rattle.curve_paths.specs.Alphabet.{Alphabet, cancelled, back, Alike, Null}
+use Rattle.curve_paths.proofs.Reduction.{alike_after, null_out, word_and_back}
+use Rattle.curve_paths.proofs.Members.{Rises, rises_first, rises_second, rises_across}
 
 -- points with numbers, paired off without crossing
 pub record Planar {P : Type 0} (In : P → Type 0) (spot : P → ℕ) (mate : P → P) : Type 0 where
