@@ -1,0 +1,5 @@
+pub mod Slide
+pub mod Refused
+pub mod Slides
+pub mod Letters
+pub mod Carried
