@@ -6,7 +6,7 @@ use Rattle.obd_base.specs.declared.points.Exit.{Exit}
 use Rattle.page_surface.specs.Polygon.{Polygon}
 use Rattle.curve_paths.specs.Curves.{IsCurve}
 use Rattle.curve_paths.specs.Twists.{exits_of}
-use Rattle.path_words.proofs.Members.{mem_get_or}
+use Rattle.curve_paths.proofs.Members.{mem_get_or}
 
 -- a curve of the list is one
 pub some_curve : (p : Polygon) (cs : List (Option (List Exit))) → All (λ c. IfSome c (IsCurve p)) cs → (c : List Exit) → Mem (Some c) cs → IsCurve p c

@@ -1,4 +1,5 @@
 mod Curves
+mod DirectWords
 mod FirstWords
 pub mod Laws
 mod TurnsSoFar

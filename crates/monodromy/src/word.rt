@@ -1,5 +1,5 @@
 // The drawing of a whole twist word.
-ghost use Rattle.std.specs.Prelude.{◌≡◌, ◌≤◌, ℕ, length, map, All, Ok, Err, IfOk, IfErr, IfSome, IsTrue, OnOk};
+ghost use Rattle.std.specs.Prelude.{◌≡◌, ◌≤◌, ℕ, length, map, All, Ok, Err, IfOk, IfErr, IfSome, OnOk};
 ghost use Rattle.page_surface.specs.Drawing.{all_exits, words};
 ghost use Rattle.curve_paths.specs.Curves.{IsCurve};
 ghost use Rattle.curve_paths.specs.Twists.{by_entries, by_entry, exits_of, words_after};
@@ -7,15 +7,13 @@ ghost use Rattle.drawing.specs.Tight.{IsTight};
 ghost use Rattle.monodromy.specs.Drawn.{IsDrawn};
 ghost use Rattle.curve_paths.specs.declared.twist.TooLong.{TooLong as Long};
 
-use crate::compare::has_words;
 use crate::curve::curve_of;
+use crate::direct::drawn_directly;
 use crate::refusal::MonodromyRefusal;
-use crate::sums::added_up;
 use crate::turns::by_power;
 use crate::words::words_of;
 use curve_paths::{Curve, TooLong, Twist};
 use drawing::Drawing;
-use obd_base::{Items, NoMemory, SideNo};
 use page_surface::Polygon;
 use path_words::TwistRefusal;
 use std::alloc::Global;
@@ -92,28 +90,6 @@ fn drawn_in_full(
     Ok(drawing)
 }
 
-// The drawing of a twist word along tight curves, by its entries added up, if it has these words.
-fn drawn_by_sums(
-    alloc: Global,
-    polygon: &Polygon,
-    curves: &[Option<Curve>],
-    twists: &[Twist],
-    wanted: &[Items<SideNo>],
-) -> Result<Option<Drawing>, NoMemory>
-    requires { All (λ curve. IfSome curve (IsCurve polygon.now)) curves.now }
-    ensures { IfOk result (λ drawing. IfSome drawing (λ d. IsDrawn polygon.now wanted.now d.drawing)) }
-{
-    let sums = added_up(alloc, twists)?;
-    match drawn_in_full(alloc, polygon, curves, &sums) {
-        Ok(drawing) => {
-            let same = has_words(&drawing, wanted)?;
-            Ok(if same { Some(drawing) } else { None })
-        }
-        Err(MonodromyRefusal::TooLong(_)) => Ok(None),
-        Err(MonodromyRefusal::NoMemory) => Err(NoMemory),
-    }
-}
-
 /// The drawing of a twist word along some curves, each by its number in the list: the entries are carried out on the
 /// identity drawing one after another, the first one first, each as so many single twists. It is the tight drawing of
 /// the words of the arcs' images, and these have at most 4,000 letters together after each single twist. `None` is a
@@ -122,10 +98,11 @@ fn drawn_by_sums(
 /// `TooLong` comes exactly where after some single twist the words have more than 4,000 letters together, and tells the
 /// entry and the letters of the first such twist.
 ///
-/// The words are found first, for each single twist linear in the letters that are set, and each curve is made tight once.
-/// Then neighbouring entries along one curve are added up, and each single twist that is left is drawn at the cost of
-/// `dehn_twist::twist`. That adding up changes nothing isn't proved here, so the words decide: a drawing with other words
-/// than those would be made anew from all entries. Twists along a curve that bounds a disk cost nothing.
+/// The words are found first, for each single twist linear in the letters that are set; powers along a curve that bounds a
+/// disk cost no more than one single twist. Their tight drawing is then made directly, at the cost of 13 sorts of twice
+/// their letters and in memory linear in them, and tested. That this finds it always isn't proved here, so what doesn't
+/// pass the test would be drawn by carrying strands along: from the identity drawing on, each single twist along curves
+/// made tight, at the cost of `dehn_twist::twist`.
 pub fn drawn(
     alloc: Global,
     polygon: &Polygon,
@@ -139,9 +116,11 @@ pub fn drawn(
         → words_after polygon.now (map exits_of curves.now) twists.now ≡ Err long) }
 {
     let words = words_of(alloc, polygon, curves, twists)?;
-    let tight = all_made_tight(alloc, polygon, curves)?;
-    match drawn_by_sums(alloc, polygon, tight.as_slice(), twists, words.as_slice())? {
+    match drawn_directly(alloc, polygon, words.as_slice())? {
         Some(drawing) => Ok(drawing),
-        None => drawn_in_full(alloc, polygon, tight.as_slice(), twists),
+        None => {
+            let tight = all_made_tight(alloc, polygon, curves)?;
+            drawn_in_full(alloc, polygon, tight.as_slice(), twists)
+        }
     }
 }

@@ -56,6 +56,7 @@ fn turned_by_word(
     requires curves { All (λ curve. IfSome curve (IsCurve polygon.now)) curves.now }
     requires words { AreWords polygon.now first }
     ensures turned { IfOk result (λ now. by_entries polygon.now (map exits_of curves.now) 0 twists.now first ≡ Ok now) }
+    ensures words { IfOk result (λ now. AreWords polygon.now now) }
     ensures long { IfErr result (λ refusal. (long : Long) → refusal ≡ MonodromyRefusal.TooLong long
         → by_entries polygon.now (map exits_of curves.now) 0 twists.now first ≡ Err long) }
 {
@@ -85,7 +86,8 @@ pub(crate) fn words_of(
     twists: &[Twist],
 ) -> Result<Items<Items<SideNo>>, MonodromyRefusal>
     requires { All (λ curve. IfSome curve (IsCurve polygon.now)) curves.now }
-    ensures words { IfOk result (λ words. words_after polygon.now (map exits_of curves.now) twists.now ≡ Ok words) }
+    ensures value { IfOk result (λ words. words_after polygon.now (map exits_of curves.now) twists.now ≡ Ok words) }
+    ensures words { IfOk result (λ words. AreWords polygon.now words) }
     ensures long { IfErr result (λ refusal. (long : Long) → refusal ≡ MonodromyRefusal.TooLong long
         → words_after polygon.now (map exits_of curves.now) twists.now ≡ Err long) }
 {

@@ -4,12 +4,7 @@ use Rattle.curve_paths.specs.Curves.{IsCurve}
 use Rattle.monodromy.proofs.Curves.{all_curves}
 use Rattle.monodromy.proofs.word.drawn.Goals as goal
 
-pub drawn_by_sums-requires : goal.drawn_by_sums-requires
-drawn_by_sums-requires c =
-    let p = c.args.polygon.now in
-    subst (All (λ curve. IfSome curve (IsCurve p))) (sym c.as_slice.ensures) (all_curves p c.in_ok-tight.tight (λ i. (c.in_ok-tight.ensures.made i).is_curve))
-
 pub drawn_in_full-requires : goal.drawn_in_full-requires
 drawn_in_full-requires c =
     let p = c.args.polygon.now in
-    subst (All (λ curve. IfSome curve (IsCurve p))) (sym c.as_slice-in-None.ensures) (all_curves p c.in_ok-tight.tight (λ i. (c.in_ok-tight.ensures.made i).is_curve))
+    subst (All (λ curve. IfSome curve (IsCurve p))) (sym c.as_slice-in-None.ensures) (all_curves p c.in_ok-tight-in-None.tight (λ i. (c.in_ok-tight-in-None.ensures.made i).is_curve))
