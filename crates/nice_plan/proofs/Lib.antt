@@ -8,6 +8,7 @@ mod ChordNames
 pub mod ChosenPiece
 mod ChosenSteps
 mod closed
+mod Counting
 mod Distance
 mod DoorChain
 mod DoorSearch
@@ -42,6 +43,7 @@ mod RowLast
 mod RowLegal
 mod Rows
 mod Stepping
+mod SumTree
 pub mod StrategyEnds
 mod Tracing
 mod Weight

@@ -14,7 +14,7 @@ use Rattle.region_table.specs.Nice.{is_nice}
 use Rattle.nice_plan.specs.declared.chord_name.ChordName.{ChordName}
 use Rattle.nice_plan.specs.Burst.{burst, chord_ending, doors, named_chords, path}
 use Rattle.nice_plan.specs.Path.{chosen, doors_from}
-use Rattle.nice_plan.specs.Measured.{IsOn}
+use Rattle.nice_plan.specs.Measured.{IsChordOn, IsOn}
 use Rattle.nice_plan.proofs.BurstLegal.{planned}
 use Rattle.nice_plan.proofs.BurstLength.{doors_length, rows_length}
 use Rattle.nice_plan.proofs.PathEnds.{whole_path}
@@ -23,7 +23,7 @@ use Rattle.nice_plan.proofs.Rows.{Door}
 use Rattle.nice_plan.proofs.Tracing.{AllNamed}
 
 -- a strand has no more exits than all strands together
-strand_few : (rows : List (List Exit)) (i : ℕ) → length (get_or rows i []) ≤ length (flat_map (λ strand. strand) rows)
+pub strand_few : (rows : List (List Exit)) (i : ℕ) → length (get_or rows i []) ≤ length (flat_map (λ strand. strand) rows)
 strand_few [] i = omega arith
 strand_few (row ∷ rows) zero = omega (arith, length-append row (flat_map (λ strand. strand) rows))
 strand_few (row ∷ rows) (suc i) = omega (arith, length-append row (flat_map (λ strand. strand) rows), strand_few rows i)
@@ -34,11 +34,11 @@ standing_on d (x ∷ es) [] h e m = absurd h
 standing_on d (x ∷ es) (p ∷ ps) h e (inl q) = subst (IsOn d) (sym q) (record { side = h.0.side; place = h.0.place })
 standing_on d (x ∷ es) (p ∷ ps) h e (inr m) = standing_on d es ps h.1 e m
 
-named_small : (d : Drawing) (ns : List ChordName) (gs : List Door) → AllNamed d (λ e. e) ns gs → (c : ChordName) → Mem c ns → c.chord ≤ length (all_exits d)
-named_small d [] gs h c m = absurd m
-named_small d (n ∷ ns) [] h c m = absurd h
-named_small d (n ∷ ns) (g ∷ gs) h c (inl q) = let a = ap (λ w. w.chord) q in omega (arith, h.0.chord, strand_few d.strands n.strand, a)
-named_small d (n ∷ ns) (g ∷ gs) h c (inr m) = named_small d ns gs h.1 c m
+named_on : (d : Drawing) (ns : List ChordName) (gs : List Door) → AllNamed d (λ e. e) ns gs → (c : ChordName) → Mem c ns → IsChordOn d c
+named_on d [] gs h c m = absurd m
+named_on d (n ∷ ns) [] h c m = absurd h
+named_on d (n ∷ ns) (g ∷ gs) h c (inl q) = subst (IsChordOn d) (sym q) (record { strand = h.0.strand; chord = h.0.chord })
+named_on d (n ∷ ns) (g ∷ gs) h c (inr m) = named_on d ns gs h.1 c m
 
 module _ (d : Drawing) (ok : IsEmbedded d) (bad : is_nice d ≡ false) where
   -- the segments of the path are there
@@ -49,9 +49,9 @@ module _ (d : Drawing) (ok : IsEmbedded d) (bad : is_nice d ≡ false) where
   pub path_some : (segments : List Exit) → segments ≡ map (segment_of d) (path d) → 1 ≤ length segments
   path_some segments q = let a = ap length q in omega (arith, a, length-map (path d) (segment_of d), (whole_path d ok bad).long)
 
-  -- the chords have small numbers
-  pub doors_small : (chords : List ChordName) → chords ≡ doors d → (c : ChordName) → Mem c chords → c.chord ≤ length (all_exits d)
-  doors_small chords q c m = named_small d (doors d) _ (planned d ok bad).named c (subst (λ cs. Mem c cs) q m)
+  -- the chords are there too
+  pub doors_on : (chords : List ChordName) → chords ≡ doors d → (c : ChordName) → Mem c chords → IsChordOn d c
+  doors_on chords q c m = named_on d (doors d) _ (planned d ok bad).named c (subst (λ cs. Mem c cs) q m)
 
   -- and the drawing after the burst has few points
   pub burst_few : (chords : List ChordName) (segments : List Exit) → chords ≡ doors d → segments ≡ map (segment_of d) (path d)

@@ -1,10 +1,10 @@
 -- The numbers of a burst's fingers, as code makes them: sums once a segment, then row after row.
-use Rattle.std.proofs.Common.{◌≡◌, ℕ, zero, suc, ◌+◌, ◌*◌, ◌<◌, ◌≤◌, ◌^◌, Bool, true, false, cond, eqb, ltb, ◌&&◌, List, [], ◌∷◌, ◌++◌, length, get_or, take, drop, refl, sym, ◌∙◌, ap, ap₂, subst, arith, inl, inr}
+use Rattle.std.proofs.Common.{◌≡◌, ℕ, zero, suc, ◌+◌, ◌*◌, ◌<◌, ◌≤◌, ◌^◌, Bool, true, false, cond, eqb, List, [], ◌∷◌, ◌++◌, length, get_or, take, drop, refl, sym, ◌∙◌, ap, ap₂, subst, arith, inl, inr}
 use Rattle.std.specs.List.{sum_by}
 use Rattle.std.proofs.Math.Nat.{mul-le-mul_left, mul-le-mul_right}
 use Rattle.std.proofs.Math.Seq.{drop-cons, take-suc}
-use Rattle.std.proofs.lemmas.List.{append_assoc, length-append, length-take, length-take-le, take-append-drop}
-use Rattle.std.proofs.lemmas.List.Sums.{count_by-le-length, sum_by-append, sum_by-cons}
+use Rattle.std.proofs.lemmas.List.{append_assoc, length-append, take-append-drop}
+use Rattle.std.proofs.lemmas.List.Sums.{count_by-le-length, sum_by-cons}
 use Rattle.obd_base.specs.Lists.{Mem}
 use Rattle.obd_base.proofs.lists.Members.{mem_left}
 use Rattle.obd_base.specs.declared.points.Exit.{Exit}
@@ -39,18 +39,6 @@ pub lifts_small : (d : Drawing) (before : List Exit) (s : Exit) → sum_by (λ e
 lifts_small d [] s = omega arith
 lifts_small d (e ∷ es) s = omega (arith, sum_by-cons (λ e. lift d e s) e es, lift_small d e s, lifts_small d es s)
 
--- and a chord's number rises by at most twice the segments for each row
-pub chord_lifts_small : (n : ℕ) (before : List ChordName) (c : ChordName) → sum_by (λ b. chord_lift n b c) before ≤ (n + n) * length before
-chord_lifts_small n [] c = omega arith
-chord_lifts_small n (b ∷ bs) c =
-    let l = low (eqb c.strand b.strand && ltb b.chord c.chord) in
-    let m : (n + n) * suc (length bs) ≡ (n + n) + (n + n) * length bs = omega arith in
-    omega (arith, sum_by-cons (λ b. chord_lift n b c) b bs, l, m, chord_lifts_small n bs c)
-  where
-    low : (b : Bool) → cond b (n + n) 0 ≤ n + n
-    low true = omega arith
-    low false = omega arith
-
 -- the sums so far, and what is left of them
 pub raised_more : (d : Drawing) (path : List Exit) (done : List Raised) (at : ℕ) (s z : Exit) → at < length path → s ≡ get_or path at z
     → done ++ raised_from d path (take at path) (drop at path) ≡ raised_from d path [] path
@@ -68,16 +56,6 @@ raised_more d path done at s z l is h =
 pub row_by_sums : (d : Drawing) (all : List Exit) (q i c : ℕ) (before ss : List Exit) → row_fingers d all q i c before ss ≡ raised_row q i c (raised_from d all before ss)
 row_by_sums d all q i c before [] = refl
 row_by_sums d all q i c before (s ∷ ss) = ap (λ w. finger i c s.side (row_place q (raised d all before s)) ∷ w) (row_by_sums d all q i (c + 1) (before ++ (s ∷ [])) ss)
-
--- one finger more of a row
-pub row_more : (q i c : ℕ) (rs : List Raised) (fingers : List Finger) (done : List Finger) (at number : ℕ) (r z : Raised) (f : Finger) → at < length rs → r ≡ get_or rs at z
-    → f ≡ record { strand = i; chord = number; side = r.segment.side; segment = row_place q r }
-    → done ++ raised_row q i number (drop at rs) ≡ fingers
-    → (done ++ (f ∷ [])) ++ raised_row q i (number + 1) (drop (suc at) rs) ≡ fingers
-row_more q i c rs fingers done at number r z f l is e h =
-    append_assoc done (f ∷ []) (raised_row q i (number + 1) (drop (suc at) rs))
-    ∙ (ap (λ w. done ++ (w ∷ raised_row q i (number + 1) (drop (suc at) rs))) (e ∙ ap (λ r. record { strand = i; chord = number; side = r.segment.side; segment = row_place q r }) is)
-    ∙ (ap (λ w. done ++ raised_row q i number w) (sym (drop-cons rs at z l)) ∙ h))
 
 -- one row more
 pub rows_more : (d : Drawing) (all : List Exit) (cs : List ChordName) (done : List Finger) (at : ℕ) (c z : ChordName) → at < length cs → c ≡ get_or cs at z
@@ -132,17 +110,6 @@ chord_small points chords n q chord lifts hc hl hq few =
     let e : (n + n) * chords ≡ chords * n + chords * n = omega arith in
     omega (arith, hc, hl, b, c, e, few)
 
--- the sum over a beginning of a list is small too
-pub lifts_part_small : (d : Drawing) (before : List Exit) (s : Exit) (n : ℕ) → sum_by (λ e. lift d e s) (take n before) ≤ length before + length before
-lifts_part_small d before s n = omega (arith, lifts_small d (take n before) s, length-take n before)
-
--- a sum over one member more
-pub sum_more : {X : Type 0} (f : X → ℕ) (xs : List X) (i : ℕ) (x : X) → i < length xs → x ≡ get_or xs i x → sum_by f (take (i + 1) xs) ≡ sum_by f (take i xs) + f x
-sum_more f xs i x l e =
-    let one : i + 1 ≡ suc i = omega arith in
-    ap (λ n. sum_by f (take n xs)) one ∙ (ap (sum_by f) (take-suc xs i x l)
-    ∙ (sum_by-append f (take i xs) (get_or xs i x ∷ []) ∙ (let z = sum_by-cons f (get_or xs i x) [] in let w = ap f (sym e) in omega (arith, z, w))))
-
 -- a member of a beginning is a member
 pub mem_take : {X : Type 0} (n : ℕ) (xs : List X) (x : X) → Mem x (take n xs) → Mem x xs
 mem_take n xs x m = subst (λ ys. Mem x ys) (take-append-drop n xs) (mem_left x (take n xs) (drop n xs) m)
@@ -154,33 +121,10 @@ take_whole [] (suc n) l = refl
 take_whole (x ∷ xs) zero l = absurd (let w : ⊥ = omega (arith, l) in w)
 take_whole (x ∷ xs) (suc n) l = ap (λ w. x ∷ w) (take_whole xs n (omega (arith, l)))
 
--- so many chords before one leave room for one more
-pub chord_lifts_room : (n : ℕ) (before : List ChordName) (c : ChordName) (i : ℕ) → i < length before → (n + n) * length before < 2 ^ 32
-    → sum_by (λ b. chord_lift n b c) (take i before) + 2 * n < 2 ^ 32
-chord_lifts_room n before c i l few =
-    let a = chord_lifts_small n (take i before) c in
-    let b = ap (λ k. (n + n) * k) (length-take-le i before (omega (arith, l))) in
-    let e : (n + n) * suc i ≤ (n + n) * length before = mul-le-mul_left (n + n) l in
-    let f : (n + n) * suc i ≡ (n + n) + (n + n) * i = omega arith in
-    omega (arith, a, b, e, f, few)
-
-pub chord_lifts_part : (n : ℕ) (before : List ChordName) (c : ChordName) (i : ℕ) → sum_by (λ b. chord_lift n b c) (take i before) ≤ (n + n) * length before
-chord_lifts_part n before c i =
-    let a = chord_lifts_small n (take i before) c in
-    let b : (n + n) * length (take i before) ≤ (n + n) * length before = mul-le-mul_left (n + n) (omega (arith, length-take i before)) in
-    omega (arith, a, b)
-
 -- as many sums as segments
 pub length_raised : (d : Drawing) (all before ss : List Exit) → length (raised_from d all before ss) ≡ length ss
 length_raised d all before [] = refl
 length_raised d all before (s ∷ ss) = ap suc (length_raised d all (before ++ (s ∷ [])) ss)
-
--- and few rows
-pub row_small : (points chords n q : ℕ) → q < chords → 1 ≤ n → points + 2 * (chords * n) < 2 ^ 28 → q < 2 ^ 28
-row_small points chords n q l pos few =
-    let f : chords * 1 ≤ chords * n = mul-le-mul_left chords pos in
-    let g : chords * 1 ≡ chords = omega arith in
-    omega (arith, l, f, g, few)
 
 -- an entry by its sums
 pub raised_is : (d : Drawing) (all before : List Exit) (s : Exit) (a b : ℕ) → a ≡ sum_by (λ e. lift d e s) all → b ≡ sum_by (λ e. lift d e s) before

@@ -1,5 +1,7 @@
 pub mod Applied
 pub mod Burst
+pub mod Counted
+pub mod Counts
 pub mod Measured
 pub mod Numbers
 pub mod Path

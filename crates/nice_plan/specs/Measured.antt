@@ -1,9 +1,10 @@
 -- A drawing with its table, of which the distances are fresh.
 use Rattle.std.specs.Prelude.{◌≡◌, ℕ, ◌<◌, ◌≤◌, ◌^◌, Bool, false, Option, Some, None, cond, nat_eq, nat_le, nat_lt, not, ◌&&◌, ◌||◌, length, slice_index}
 use Rattle.obd_base.specs.declared.points.Exit.{Exit}
-use Rattle.page_surface.specs.Drawing.{Drawing, IsEmbedded, all_exits, points_on}
-use Rattle.page_surface.specs.Polygon.{sides}
+use Rattle.page_surface.specs.Drawing.{Drawing, IsEmbedded, all_exits, points_on, strand_exits}
+use Rattle.page_surface.specs.Polygon.{arc_count, sides}
 use Rattle.drawing.specs.Pieces.{segments_in}
+use Rattle.nice_plan.specs.declared.chord_name.ChordName.{ChordName}
 use Rattle.nice_plan.specs.Path.{before_door}
 use Rattle.region_table.specs.Table.{HasDistances, IsTableOf, Table, region}
 
@@ -37,6 +38,11 @@ segment_at m p i = slice_index (segments_in m.drawing (home m p)) i
 pub record IsOn (d : Drawing) (e : Exit) : Type 0 where
   pub side : e.side < sides d.polygon
   pub place : e.place ≤ points_on d e.side
+
+-- the strand and the chord of it are there
+pub record IsChordOn (d : Drawing) (c : ChordName) : Type 0 where
+  pub strand : c.strand < arc_count d.polygon
+  pub chord : c.chord ≤ length (strand_exits d c.strand)
 
 -- a path of a burst from a piece at distance `far` stops in a piece
 abbrev pub stops_at : Measured → ℕ → ℕ → Bool

@@ -9,6 +9,7 @@
 mod bursts;
 mod chord_name;
 mod chosen;
+mod counts;
 mod doors;
 mod fingers;
 mod measured;

@@ -17,7 +17,7 @@ use obd_base::NoMemory;
 use region_table::Regions;
 use std::alloc::Global;
 
-// The fingers of the burst with this plan. Linear in the burst, and quadratic in the path's segments and in the distance.
+// The fingers of the burst with this plan. Linear in them and the points, but for a logarithm.
 pub(crate) fn fingers_of(
     alloc: Global,
     drawing: &Drawing,
@@ -45,8 +45,8 @@ pub(crate) fn fingers_of(
 /// leave, and together they lower the weight.
 ///
 /// The table must be the drawing's, with fresh distances, and the drawing after the burst must have fewer than 2^28
-/// points. Linear in the pieces and in the burst, and quadratic in the path's segments and in the distance; no finger is
-/// pushed. The strategy is this project's own, after Sarkar and Wang (2010).
+/// points. Linear in the drawing and in the burst but for a logarithm, which comes from counting what stands before each
+/// segment and chord; no finger is pushed. The strategy is this project's own, after Sarkar and Wang (2010).
 pub fn burst(
     alloc: Global,
     drawing: &Drawing,

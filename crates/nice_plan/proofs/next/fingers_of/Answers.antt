@@ -3,14 +3,14 @@ use Rattle.std.proofs.lemmas.Result.{IfOk-weaker}
 use Rattle.nice_plan.specs.Burst.{burst}
 use Rattle.nice_plan.specs.Numbers.{burst_fingers}
 use Rattle.nice_plan.proofs.NextBurst.{burst_is}
-use Rattle.nice_plan.proofs.PlanSteps.{burst_few, doors_small, doors_some, path_on, path_some}
+use Rattle.nice_plan.proofs.PlanSteps.{burst_few, doors_on, doors_some, path_on, path_some}
 use Rattle.nice_plan.proofs.next.fingers_of.Goals as goal
 
 pub burst_fingers-requires-clause-there : goal.burst_fingers-requires-clause-there
 burst_fingers-requires-clause-there c = path_on c.args.drawing.now.drawing c.points.ensures.valid c.requires.bad c.deref-2.result.now (c.deref-2.ensures.value ∙ c.requires.segments)
 
 pub burst_fingers-requires-clause-chords : goal.burst_fingers-requires-clause-chords
-burst_fingers-requires-clause-chords c = doors_small c.args.drawing.now.drawing c.points.ensures.valid c.requires.bad c.deref.result.now (c.deref.ensures.value ∙ c.requires.chords)
+burst_fingers-requires-clause-chords c = doors_on c.args.drawing.now.drawing c.points.ensures.valid c.requires.bad c.deref.result.now (c.deref.ensures.value ∙ c.requires.chords)
 
 pub burst_fingers-requires-clause-some_chords : goal.burst_fingers-requires-clause-some_chords
 burst_fingers-requires-clause-some_chords c = doors_some c.args.drawing.now.drawing c.points.ensures.valid c.requires.bad c.deref.result.now (c.deref.ensures.value ∙ c.requires.chords)
