@@ -1,7 +1,7 @@
 -- One step of the pass that counts spans by their names, as code takes it: sizes and first spans.
-use Rattle.std.proofs.Common.{◌≡◌, ℕ, suc, ◌+◌, ◌<◌, ◌≤◌, eqb, List, length, get_or, set, sym, ◌∙◌, ap, subst, arith, inl, inr}
+use Rattle.std.proofs.Common.{◌≡◌, ℕ, suc, ◌+◌, ◌<◌, ◌≤◌, cond, eqb, List, length, get_or, set, sym, ◌∙◌, ap, subst, arith, inl, inr}
 use Rattle.std.proofs.lemmas.Bool.{cases_eq, eq-eqb, ne_eqb}
-use Rattle.std.proofs.lemmas.List.{get_or-set_other, get_or-set_same, length-set}
+use Rattle.std.proofs.lemmas.List.{get_or-set_other, get_or-set_same, length-set, set-get_or}
 use Rattle.obd_base.proofs.lists.Below.{bit, count_suc}
 use Rattle.obd_base.proofs.lists.Counts.{some_counted}
 use Rattle.region_table.specs.Counted.{AreCounted, first_so_far, size_so_far}
@@ -37,7 +37,7 @@ module _ (name : ℕ → ℕ) (x next : ℕ) (sizes firsts : List ℕ) (counted 
       ]
 
   -- a name that was met stays with its first span
-  pub count_again : (v : ℕ) → v ≡ get_or sizes (name x) 0 + 1 → 0 < get_or sizes (name x) 0 → AreCounted name next (set sizes (name x) v) firsts
+  count_again : (v : ℕ) → v ≡ get_or sizes (name x) 0 + 1 → 0 < get_or sizes (name x) 0 → AreCounted name next (set sizes (name x) v) firsts
   count_again v e some = subst (λ n. AreCounted name n (set sizes (name x) v) firsts) (sym next_is) (record {
     size = raised v e;
     first = λ p l met.
@@ -50,7 +50,7 @@ module _ (name : ℕ → ℕ) (x next : ℕ) (sizes firsts : List ℕ) (counted 
   })
 
   -- a new name has this span as its first
-  pub count_first : (v : ℕ) → v ≡ get_or sizes (name x) 0 + 1 → get_or sizes (name x) 0 ≡ 0 → name x < length firsts → AreCounted name next (set sizes (name x) v) (set firsts (name x) x)
+  count_first : (v : ℕ) → v ≡ get_or sizes (name x) 0 + 1 → get_or sizes (name x) 0 ≡ 0 → name x < length firsts → AreCounted name next (set sizes (name x) v) (set firsts (name x) x)
   count_first v e none fits = subst (λ n. AreCounted name n (set sizes (name x) v) (set firsts (name x) x)) (sym next_is) (record {
     size = raised v e;
     first = λ p l met.
@@ -66,6 +66,19 @@ module _ (name : ℕ → ℕ) (x next : ℕ) (sizes firsts : List ℕ) (counted 
               get_or-set_other firsts (name x) p x 0 n ∙ (counted.first p lp before ∙ sym (first_kept p before))
         ];
   })
+
+  -- in both cases
+  pub count_met : (v w : ℕ) → v ≡ get_or sizes (name x) 0 + 1 → w ≡ cond (eqb (get_or sizes (name x) 0) 0) x (get_or firsts (name x) 0) → name x < length firsts
+      → AreCounted name next (set sizes (name x) v) (set firsts (name x) w)
+  count_met v w e f fits = elim (cases_eq (get_or sizes (name x) 0) 0) [
+    | inl q ↦
+        let is : w ≡ x = f ∙ ap (λ b. cond b x (get_or firsts (name x) 0)) (eq-eqb (get_or sizes (name x) 0) 0 q) in
+        subst (λ n. AreCounted name next (set sizes (name x) v) (set firsts (name x) n)) (sym is) (count_first v e q fits)
+    | inr n ↦
+        let is : w ≡ get_or firsts (name x) 0 = f ∙ ap (λ b. cond b x (get_or firsts (name x) 0)) (ne_eqb (get_or sizes (name x) 0) 0 n) in
+        let same : set firsts (name x) w ≡ firsts = ap (set firsts (name x)) is ∙ set-get_or firsts (name x) 0 in
+        subst (λ fs. AreCounted name next (set sizes (name x) v) fs) (sym same) (count_again v e (omega (arith, n)))
+  ]
 
 -- no size is above the number of spans so far
 pub still_few : (sizes : List ℕ) (p v x next : ℕ) → next ≡ x + 1 → p < length sizes → v ≡ get_or sizes p 0 + 1 → ((q : ℕ) → get_or sizes q 0 ≤ x) → (q : ℕ) → get_or (set sizes p v) q 0 ≤ next

@@ -4,16 +4,16 @@ use Rattle.std.proofs.lemmas.Bool.{cases_eq}
 use Rattle.std.proofs.lemmas.List.{get_or-set_other, get_or-set_same}
 
 -- one entry more is written
-pub written_more : (f : ℕ → ℕ) (xs : List ℕ) (n x : ℕ) → n < length xs → x ≡ f n → ((p : ℕ) → p < n → get_or xs p 0 ≡ f p)
-    → (p : ℕ) → p < n + 1 → get_or (set xs n x) p 0 ≡ f p
-written_more f xs n x l is so_far p lp = elim (cases_eq p n) [
-  | inl e ↦ subst (λ q. get_or (set xs n x) q 0 ≡ f q) (sym e) (get_or-set_same xs n x 0 l ∙ is)
-  | inr ne ↦ get_or-set_other xs n p x 0 ne ∙ so_far p (omega (arith, lp, ne))
+pub written_more : {X : Type 0} (z : X) (f : ℕ → X) (xs : List X) (n : ℕ) (x : X) → n < length xs → x ≡ f n → ((p : ℕ) → p < n → get_or xs p z ≡ f p)
+    → (p : ℕ) → p < n + 1 → get_or (set xs n x) p z ≡ f p
+written_more z f xs n x l is so_far p lp = elim (cases_eq p n) [
+  | inl e ↦ subst (λ q. get_or (set xs n x) q z ≡ f q) (sym e) (get_or-set_same xs n x z l ∙ is)
+  | inr ne ↦ get_or-set_other xs n p x z ne ∙ so_far p (omega (arith, lp, ne))
 ]
 
 -- those behind it stay
-pub left_more : (xs old : List ℕ) (n x : ℕ) → ((p : ℕ) → n ≤ p → get_or xs p 0 ≡ get_or old p 0) → (p : ℕ) → n + 1 ≤ p → get_or (set xs n x) p 0 ≡ get_or old p 0
-left_more xs old n x left p lp = get_or-set_other xs n p x 0 (λ e. absurd (omega (arith, lp, e))) ∙ left p (omega (arith, lp))
+pub left_more : {X : Type 0} (z : X) (xs old : List X) (n : ℕ) (x : X) → ((p : ℕ) → n ≤ p → get_or xs p z ≡ get_or old p z) → (p : ℕ) → n + 1 ≤ p → get_or (set xs n x) p z ≡ get_or old p z
+left_more z xs old n x left p lp = get_or-set_other xs n p x z (λ e. absurd (omega (arith, lp, e))) ∙ left p (omega (arith, lp))
 
 -- a list with what a function says of the items of another
 pub map_of_entries : {X : Type 0} (d : X) (f : X → X) (xs ys : List X) → length ys ≡ length xs → ((p : ℕ) → p < length xs → get_or ys p d ≡ f (get_or xs p d)) → ys ≡ map f xs

@@ -1,6 +1,7 @@
 -- What a finger does to the pieces of a drawing and to their names.
 pub mod AfterFinger
 pub mod Changed
+pub mod EndsAfter
 pub mod Entries
 pub mod FrameAfter
 pub mod Homes

@@ -1,9 +1,10 @@
 -- What a finger writes into the lists of a table.
-use Rattle.std.specs.Prelude.{◌≡◌, ◌≢◌, ℕ, suc, ◌+◌, ◌<◌, Bool, true, false, cond, nat_eq, nat_lt, not, ◌&&◌, List, [], ◌∷◌, ◌++◌, drop, length, map, slice_index, slice_index_or, slice_set, take}
+use Rattle.std.specs.Prelude.{◌≡◌, ◌≢◌, ℕ, suc, ◌+◌, ◌-◌, ◌<◌, ◌^◌, Bool, true, false, cond, nat_eq, nat_lt, not, ◌&&◌, List, [], ◌∷◌, ◌++◌, drop, length, map, min, slice_index_or, slice_set, take}
 use Rattle.page_surface.specs.Drawing.{Drawing, chords, differ}
 use Rattle.drawing.specs.declared.finger.Finger.{Finger}
 use Rattle.drawing.specs.Fingers.{chord_at, entered, entered_beyond}
 use Rattle.drawing.specs.Pieces.{same_piece}
+use Rattle.region_table.specs.Ends.{ChordNo, end_at}
 
 -- two where a number isn't below a place
 abbrev pub step : ℕ → ℕ → ℕ
@@ -41,17 +42,17 @@ abbrev pub renamed_part : ℕ → ℕ → (ℕ → Bool) → (ℕ → ℕ) → �
 renamed_part split count first name s = cond (nat_eq (name s) split && not (first s)) count (name s)
 
 -- two entries put in before a place
-abbrev pub put_two : ℕ → ℕ → ℕ → List ℕ → List ℕ
+abbrev pub put_two : {X : Type 0} → ℕ → X → X → List X → List X
 put_two i a b xs = take i xs ++ (a ∷ b ∷ drop i xs)
 
 -- two entries put in before place t and two before place u: what then stands where
-pub record ArePut (t u a b c e : ℕ) (xs ys : List ℕ) : Type 0 where
+pub record ArePut {X : Type 0} (t u : ℕ) (a b c e : X) (xs ys : List X) : Type 0 where
   pub size : length ys ≡ length xs + 4
-  pub old : (s : ℕ) → s < length xs → slice_index ys (shifted t u s) ≡ slice_index xs s
-  pub first : slice_index ys (first_new t u) ≡ a
-  pub second : slice_index ys (suc (first_new t u)) ≡ b
-  pub third : slice_index ys (first_new u t) ≡ c
-  pub fourth : slice_index ys (suc (first_new u t)) ≡ e
+  pub old : (z : X) (s : ℕ) → s < length xs → slice_index_or ys (shifted t u s) z ≡ slice_index_or xs s z
+  pub first : (z : X) → slice_index_or ys (first_new t u) z ≡ a
+  pub second : (z : X) → slice_index_or ys (suc (first_new t u)) z ≡ b
+  pub third : (z : X) → slice_index_or ys (first_new u t) z ≡ c
+  pub fourth : (z : X) → slice_index_or ys (suc (first_new u t)) z ≡ e
 
 -- what a finger writes into the table of names: the split piece's name stays with its part in front, the other part and the tip
 -- take the two next names, and all other names stay
@@ -81,3 +82,22 @@ begins_later one other k = cond (nat_lt one k) 2 0 + cond (nat_lt other k) 2 0
 -- where the chords of each strand begin afterwards: two more begin behind the pushed one
 abbrev pub rows_after : ℕ → ℕ → ℕ → ℕ → ℕ → ℕ → List (List ℕ) → List (List ℕ)
 rows_after t u i c a b rows = let moved = map (map (shifted t u)) rows in slice_set moved i (put_two (suc c) a b (slice_index_or moved i []))
+
+-- a chord as it is named afterwards: those behind the pushed chord of a strand come two later
+abbrev pub renumbered : ChordNo → ChordNo → ChordNo
+renumbered pushed c = record { strand = c.strand; chord = cond (nat_eq c.strand pushed.strand && nat_lt pushed.chord c.chord) (min (c.chord + 2) (2 ^ 32 - 1)) c.chord }
+
+-- the part of a chord that is so many parts behind its beginning
+abbrev pub part_of : ChordNo → ℕ → ChordNo
+part_of c behind = record { strand = c.strand; chord = c.chord + behind }
+
+-- what a finger writes into the table of chords at their ends: the parts of the pushed chord up to the side, beyond it and back, of which
+-- the one at the near end, 'here', goes to the first new number, and the one at the far end, 'there', to the second
+pub record AreEndsAfter (total t u near_end far_end : ℕ) (pushed here beyond there : ChordNo) (ends ends_after : List ChordNo) : Type 0 where
+  pub others : (s : ℕ) → s < total → s ≢ near_end → s ≢ far_end → end_at ends_after (shifted t u s) ≡ renumbered pushed (end_at ends s)
+  pub at_near : end_at ends_after (shifted t u near_end) ≡ here
+  pub at_early : end_at ends_after (first_new t u) ≡ here
+  pub at_far : end_at ends_after (shifted t u far_end) ≡ there
+  pub at_late : end_at ends_after (suc (first_new t u)) ≡ there
+  pub at_beyond : end_at ends_after (first_new u t) ≡ beyond
+  pub at_tip : end_at ends_after (suc (first_new u t)) ≡ beyond

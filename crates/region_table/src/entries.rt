@@ -1,5 +1,5 @@
 // The lists of a table by numbers of the place order, after a finger.
-ghost use Rattle.std.specs.Prelude.{◌≡◌, ◌≢◌, ℕ, ◌+◌, ◌<◌, ◌≤◌, ◌^◌, length, slice_index, vec_capacity, vec_len};
+ghost use Rattle.std.specs.Prelude.{◌≡◌, ◌≢◌, ℕ, ◌+◌, ◌<◌, ◌≤◌, ◌^◌, cond, length, nat_eq, slice_index, vec_capacity, vec_len};
 ghost use Rattle.region_table.specs.FingerLists.{AreMatesAfter, ArePut, IsNamedByFinger, comes_in_front, put_two, renamed_part};
 ghost use Rattle.region_table.specs.Room.{KeepsCapacity};
 
@@ -16,14 +16,30 @@ pub(crate) struct Push {
     pub(crate) out: u32,
 }
 
+impl Push {
+    // Which of the three parts of the pushed chord has the nearer end.
+    pub(crate) fn near_part(self) -> u32
+        ensures { result ≡ cond (nat_eq self.out 0) 0 2 }
+    {
+        if self.out == 0 { 0 } else { 2 }
+    }
+
+    // Which of them has the other one.
+    pub(crate) fn far_part(self) -> u32
+        ensures { result ≡ cond (nat_eq self.out 0) 2 0 }
+    {
+        if self.out == 0 { 2 } else { 0 }
+    }
+}
+
 // The entries of the four new numbers: of the part in front of the span entered and the one between the new points, of
 // the part of the span beyond that comes first and of the tip.
 #[derive(Clone, Copy)]
-struct Entries {
-    front: u32,
-    middle: u32,
-    beyond: u32,
-    tip: u32,
+pub(crate) struct Entries<T> {
+    pub(crate) front: T,
+    pub(crate) middle: T,
+    pub(crate) beyond: T,
+    pub(crate) tip: T,
 }
 
 // How a piece is split: the piece, the chord's first end and the span entered, by which its two parts are told apart,
@@ -68,7 +84,7 @@ fn rename_part(names: &mut [u32], split: Split)
 }
 
 // Puts two entries in before a place. There is room for them.
-pub(crate) fn put_two(entries: &mut Vec<u32>, place: usize, first: u32, second: u32)
+pub(crate) fn put_two<T: Copy + Drop>(entries: &mut Vec<T>, place: usize, first: T, second: T)
     requires place { place ≤ length entries.old.items }
     requires room { vec_len entries.old + 2 ≤ vec_capacity entries.old }
     ensures put { entries.new.items ≡ put_two place first second entries.old.items }
@@ -79,7 +95,7 @@ pub(crate) fn put_two(entries: &mut Vec<u32>, place: usize, first: u32, second: 
 }
 
 // Puts in the entries of the four new numbers, the later ones first. There is room for them.
-fn put_entries(entries: &mut Vec<u32>, entry: Entry, new: Entries)
+pub(crate) fn put_entries<T: Copy + Drop>(entries: &mut Vec<T>, entry: Entry, new: Entries<T>)
     requires apart { entry.entered ≢ entry.beyond }
     requires entered { entry.entered < length entries.old.items }
     requires beyond { entry.beyond < length entries.old.items }

@@ -1,17 +1,16 @@
 // What of a table is read off the chords of a drawing.
-ghost use Rattle.std.specs.Prelude.{◌≡◌, ℕ, suc, ◌+◌, ◌<◌, ◌≤◌, ◌^◌, [], cond, length, nat_lt, slice_index, slice_index_or, vec_capacity, vec_len, IfOk, OnOk};
+ghost use Rattle.std.specs.Prelude.{◌≡◌, ℕ, suc, ◌+◌, ◌<◌, ◌≤◌, ◌^◌, cond, length, nat_lt, slice_index, vec_capacity, vec_len, IfOk, OnOk};
 ghost use Rattle.page_surface.specs.Drawing.{Drawing as Shown, IsEmbedded};
 ghost use Rattle.drawing.specs.Fingers.{IsLegal, pushed};
-ghost use Rattle.region_table.specs.Ends.{IsFrameOf, IsInside, KnowsEnds};
+ghost use Rattle.region_table.specs.Ends.{IsFrameOf};
 ghost use Rattle.region_table.specs.FingerLists.{IsPush, begins_later};
 ghost use Rattle.region_table.specs.Room.{HasPlaces, KeepsCapacity, TookRoom};
 
 use crate::chords::{read_chords, side_starts};
-use crate::ends::{ChordNo, chord_ends, no_chord, note_strands};
+use crate::ends::{ChordNo, chord_ends, write_ends};
 use crate::entries::{Push, write_mates};
 use crate::mates::mates;
 use crate::rows::Rows;
-use crate::told::grow_by_two;
 use drawing::{Drawing, Finger};
 use obd_base::{NoMemory, SideNo};
 use std::alloc::Global;
@@ -96,23 +95,8 @@ fn write_starts(starts: &mut [u32], one: SideNo, other: SideNo)
     }
 }
 
-// The chord that ends at each number, with four numbers more. Linear in the chords.
-fn write_ends(ends: &mut Vec<ChordNo>, begins: &Rows, mates: &[u32])
-    requires few { length begins.now.lists < 2 ^ 32 }
-    requires few_chords { (i : ℕ) → i < length begins.now.lists → length (slice_index_or begins.now.lists i []) < 2 ^ 32 }
-    requires inside { (i c : ℕ) → i < length begins.now.lists → c < length (slice_index_or begins.now.lists i []) → IsInside begins.now.lists mates.now i c }
-    requires room { vec_len ends.old + 4 ≤ vec_capacity ends.old }
-    requires size { length ends.old.items + 4 ≡ length mates.now }
-    ensures size { length ends.new.items ≡ length mates.now }
-    ensures known { KnowsEnds begins.now.lists mates.now ends.new.items }
-    ensures room { KeepsCapacity ends.old ends.new }
-{
-    grow_by_two(ends, no_chord());
-    grow_by_two(ends, no_chord());
-    note_strands(begins, mates, ends);
-}
-
-// The frame of the drawing after a finger. It takes no memory, and uses up the room for a finger. Linear in the chords.
+// The frame of the drawing after a finger. It takes no memory, and uses up the room for a finger. Linear in the numbers:
+// each list is passed once in order.
 pub(crate) fn write_frame(frame: &mut Frame, drawing: &Drawing, finger: &Finger, push: Push)
     requires before { (d : Shown) × IsEmbedded d × IsLegal d finger.now × IsFrameOf d frame.old.starts.items frame.old.mates.items frame.old.begins.lists frame.old.ends.items × IsPush d finger.now push.from push.near push.far push.entry.entered push.entry.beyond push.out × (drawing.now.drawing ≡ pushed d finger.now) }
     requires mates_room { vec_len frame.old.mates + 4 ≤ vec_capacity frame.old.mates }
@@ -134,5 +118,9 @@ pub(crate) fn write_frame(frame: &mut Frame, drawing: &Drawing, finger: &Finger,
         push.entry.first_beyond() + 1 - push.out,
         push.entry.first_new() + 1 - push.out,
     );
-    write_ends(&mut frame.ends, &frame.begins, &frame.mates);
+    let pushed = ChordNo {
+        strand: finger.strand,
+        chord: finger.chord,
+    };
+    write_ends(&mut frame.ends, push, pushed);
 }

@@ -1,5 +1,5 @@
 // Names of pieces: each span has the number of its piece, and the pieces are numbered in the order of their first spans.
-ghost use Rattle.std.specs.Prelude.{◌≡◌, ℕ, ◌<◌, ◌^◌, map, length, slice_index, IfOk};
+ghost use Rattle.std.specs.Prelude.{◌≡◌, ℕ, ◌<◌, ◌^◌, cond, map, length, nat_eq, slice_index, IfOk};
 ghost use Rattle.page_surface.specs.Drawing.{IsEmbedded, chords};
 ghost use Rattle.drawing.specs.Pieces.{span_count, spans};
 ghost use Rattle.drawing.specs.Round.{other_end};
@@ -37,7 +37,15 @@ pub(crate) fn number_pieces(
     Ok(names)
 }
 
-// How many spans have each name, and the first of them. Before it the sizes are 0.
+// The first span with a name where so many were met, and another one is now.
+fn first_met(size: u32, first: u32, now: u32) -> u32
+    ensures { result ≡ cond (nat_eq size 0) now first }
+{
+    if size == 0 { now } else { first }
+}
+
+// How many spans have each name, and the first of them. Before it the sizes are 0. Each span is written the same way,
+// since about half of them are the first with their name, and a branch would be guessed wrong as often.
 pub(crate) fn count_spans(names: &[u32], sizes: &mut [u32], firsts: &mut [u32])
     requires few { length names.now < 2 ^ 30 }
     requires told { (s : ℕ) → s < length names.now → slice_index names.now s < length sizes.old }
@@ -49,9 +57,8 @@ pub(crate) fn count_spans(names: &[u32], sizes: &mut [u32], firsts: &mut [u32])
 {
     for at in 0..names.len() {
         let name = names[at] as usize;
-        if sizes[name] == 0 {
-            firsts[name] = at as u32;
-        }
-        sizes[name] += 1;
+        let size = sizes[name];
+        firsts[name] = first_met(size, firsts[name], at as u32);
+        sizes[name] = size + 1;
     }
 }

@@ -148,7 +148,8 @@ impl Regions {
     /// so `distance` and `weight` wait for `measure`. Each piece that the finger keeps has the name that it had, and every
     /// other piece has a name that no kept piece has. Answers how many pieces changed or are new: four or five.
     ///
-    /// Takes no memory: it uses up the room for a finger (see `reserve`). Linear in the points and sides.
+    /// Takes no memory: it uses up the room for a finger (see `reserve`). Linear in the points and sides: names, ends and
+    /// chords are shifted in passes in order, and sizes and lists of the pieces' spans are counted anew.
     pub fn after_finger(&mut self, drawing: &Drawing, finger: &Finger) -> u32
         requires before { (d : Shown) × IsEmbedded d × IsLegal d finger.now × IsTableOf d self.old × (drawing.now.drawing ≡ pushed d finger.now) }
         requires room { 1 ≤ self.old.room }

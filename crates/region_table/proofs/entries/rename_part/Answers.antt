@@ -12,7 +12,7 @@ loop-span-preserved c =
     let fits : n < length c.loop-span.names = omega (arith, c.loop-span-test.true, v.size) in
     record {
       size = length-set c.loop-span.names n _ ∙ v.size;
-      done = written_more (renamed_part split.piece split.part (comes_in_front split.from split.entered) (λ s. get_or c.args.names.now s 0)) c.loop-span.names n _ fits
+      done = written_more 0 (renamed_part split.piece split.part (comes_in_front split.from split.entered) (λ s. get_or c.args.names.now s 0)) c.loop-span.names n _ fits
           (c.renamed.ensures ∙ ap (λ x. cond (eqb x split.piece && not (comes_in_front split.from split.entered n)) split.part x) (v.left n (omega arith))) v.done;
-      left = left_more c.loop-span.names c.args.names.now n _ v.left;
+      left = left_more 0 c.loop-span.names c.args.names.now n _ v.left;
     }

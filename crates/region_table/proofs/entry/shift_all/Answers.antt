@@ -16,8 +16,8 @@ loop-at-preserved c =
     let fits : n < length c.loop-at.numbers = omega (arith, c.loop-at-test.true, v.size) in
     record {
       size = length-set c.loop-at.numbers n _ ∙ v.size;
-      done = written_more (λ p. shifted t u (get_or c.args.numbers.now p 0)) c.loop-at.numbers n _ fits (c.shifted.ensures ∙ ap (shifted t u) (v.left n (omega arith))) v.done;
-      left = left_more c.loop-at.numbers c.args.numbers.now n _ v.left;
+      done = written_more 0 (λ p. shifted t u (get_or c.args.numbers.now p 0)) c.loop-at.numbers n _ fits (c.shifted.ensures ∙ ap (shifted t u) (v.left n (omega arith))) v.done;
+      left = left_more 0 c.loop-at.numbers c.args.numbers.now n _ v.left;
     }
 
 pub returns : goal.returns

@@ -11,7 +11,7 @@ loop-side-preserved c =
     let fits : n < length c.loop-side.starts = omega (arith, c.loop-side-test.true, v.size) in
     record {
       size = length-set c.loop-side.starts n _ ∙ v.size;
-      done = written_more (λ k. get_or c.args.starts.now k 0 + begins_later c.args.one c.args.other k) c.loop-side.starts n _ fits
+      done = written_more 0 (λ k. get_or c.args.starts.now k 0 + begins_later c.args.one c.args.other k) c.loop-side.starts n _ fits
           (omega (arith, v.left n (omega arith), c.later.ensures, c.later-in-loop-side.ensures)) v.done;
-      left = left_more c.loop-side.starts c.args.starts.now n _ v.left;
+      left = left_more 0 c.loop-side.starts c.args.starts.now n _ v.left;
     }

@@ -11,5 +11,5 @@ loop-name-preserved c =
     let fits : n < length c.loop-name.labels = omega (arith, c.loop-name-test.true, v.size, c.requires) in
     record {
       size = length-set c.loop-name.labels n _ ∙ v.size;
-      so_far = written_more (λ p. first_label c.args.bound (get_or c.args.bases.now p false)) c.loop-name.labels n _ fits c.first_label.ensures v.so_far;
+      so_far = written_more 0 (λ p. first_label c.args.bound (get_or c.args.bases.now p false)) c.loop-name.labels n _ fits c.first_label.ensures v.so_far;
     }
