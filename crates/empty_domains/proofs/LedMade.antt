@@ -7,6 +7,7 @@ use Rattle.drawing.proofs.Lists.{none_before}
 use Rattle.drawing.proofs.SamePiece.{same_piece_refl, table_at}
 use Rattle.drawing.specs.Pieces.{piece_table, same_piece, span_count, spans}
 use Rattle.drawing.specs.Points.{IsGenerator, is_generator}
+use Rattle.empty_domains.proofs.FarEdges.{edges_tell}
 use Rattle.empty_domains.proofs.Generators.{generator_choice}
 use Rattle.empty_domains.proofs.LedSteps.{led_near}
 use Rattle.empty_domains.proofs.PieceMark.{side_under}
@@ -16,7 +17,7 @@ use Rattle.empty_domains.proofs.StepRules.{told_bigons, told_near}
 use Rattle.empty_domains.proofs.StripFacts.{strip_is}
 use Rattle.empty_domains.specs.Ground.{Ground, IsGround, IsSpot, IsStanding}
 use Rattle.empty_domains.specs.Led.{IsLed}
-use Rattle.empty_domains.specs.Marks.{AreMarked, AreNear, arcs_rule_by, marked_by, rows_rule_by}
+use Rattle.empty_domains.specs.Marks.{AreMarked, AreNear, arcs_rule_by, edges_rule_by, marked_by}
 use Rattle.empty_domains.specs.NearTest.{IsCollected, bigons, is_near, swept}
 use Rattle.empty_domains.specs.Strip.{Step, all_strips, is_fresh}
 use Rattle.empty_domains.specs.Sweep.{starts}
@@ -86,15 +87,16 @@ module _ (d : Drawing) (ok : IsEmbedded d) where
     pub led_rules : (x : List ℕ) → x ≡ target d y s.by → IsGenerator d x → (from to : List ℕ) → IsStanding d y from → IsStanding d x to
         → (rs : List ℕ) → rs ≡ starts (λ x. get_or g.other x 0) (λ x. get_or g.opposite x 0) s.by.start (suc s.steps)
         → (count : ℕ) → count ≡ count_by (λ s. eqb (suc (get_or g.other s 0)) s) found → count ≡ cond (eqb s.by.first s.by.second) 1 0
-        → (b : Bool) → b ≡ (arcs_rule_by d g from to (marked_by pieces marks) && rows_rule_by g from to (marked_by pieces marks) s.by.width rs)
+        → (b : Bool) → b ≡ (arcs_rule_by d g from to (marked_by pieces marks) && edges_rule_by g from to (marked_by pieces marks) s.by.width s.by.start rs)
         → (is_fresh d s && succeeds d y s.by) ≡ b
     led_rules x e gx from to fy fx rs rs_are count c n b h =
         let cy = (generator_choice d y gy).0 in
         let bs : bigons d found ≡ count = sym (c ∙ told_bigons d ok g is found (collected_under (swept d s.by) found collected)) in
         let rows_are = told_rows d ok y cy s read g is rs rs_are ∙ sym (strip_is d y s read fresh).rows_are in
         let near = told_near d ok g is y x from to cy (generator_choice d x gx).0 fy fx pieces found marks pieces_are marked.marked s.by rs rows_are (told_points d ok y cy s read g is rs rs_are) (generator_choice d x gx).1 in
+        let edges = edges_tell d ok y cy g is s read rs rs_are x from to (generator_choice d x gx).0 fy fx (marked_by pieces marks) in
         led_near d ok nice y gy gens s read fresh found collected b
-        (ap (λ z. is_near d found y z s.by) (sym e) ∙ (near ∙ (first _ _ (eq-eqb _ _ (bs ∙ n)) ∙ sym h)))
+        (ap (λ z. is_near d found y z s.by) (sym e) ∙ (near ∙ (first _ _ (eq-eqb _ _ (bs ∙ n)) ∙ sym (h ∙ ap (λ t. arcs_rule_by d g from to (marked_by pieces marks) && t) edges))))
       where
         first : (a c : Bool) → a ≡ true → (a && c) ≡ c
         first a c q = rw q refl

@@ -7,6 +7,7 @@ mod Complete
 mod DomainGeneral
 mod Edge
 mod Empty
+mod FarEdges
 mod Finish
 mod Fresh
 mod Generators

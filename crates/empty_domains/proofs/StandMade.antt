@@ -1,8 +1,10 @@
 -- The number of a generator's point on a side, as it is made from the point's number on its arc.
-use Rattle.std.proofs.Common.{◌≡◌, ◌≢◌, ℕ, ◌+◌, ◌-◌, ◌<◌, ◌≤◌, inl, inr, true, false, cond, ltb, List, get_or, map, sym, ap, subst, arith, ◌∙◌}
+use Rattle.std.proofs.Common.{◌≡◌, ◌≢◌, ℕ, ◌+◌, ◌-◌, ◌<◌, ◌≤◌, inl, inr, true, false, cond, eqb, ltb, List, get_or, map, set, sym, ap, subst, arith, ◌∙◌}
 use Rattle.std.proofs.lemmas.Bool.{le-ltb, lt-ltb}
+use Rattle.std.proofs.lemmas.List.{get_or-set_other}
 use Rattle.drawing.specs.Pieces.{span_count}
 use Rattle.drawing.specs.Points.{IsGenerator}
+use Rattle.drawing.specs.Round.{opposite, point_name, point_of}
 use Rattle.empty_domains.proofs.Along.{name_is}
 use Rattle.empty_domains.proofs.Diagram.{partner_points}
 use Rattle.empty_domains.proofs.Generators.{generator_choice}
@@ -10,8 +12,9 @@ use Rattle.empty_domains.proofs.Looks.{point_spot, spot_under}
 use Rattle.empty_domains.proofs.Made.{entries, entry_at}
 use Rattle.empty_domains.proofs.Standing.{stand_first, stand_second}
 use Rattle.empty_domains.proofs.Stands.{stand_names}
-use Rattle.empty_domains.specs.Ground.{IsSpot, IsStanding}
+use Rattle.empty_domains.specs.Ground.{IsSpot, IsStanding, KeepsOthers}
 use Rattle.empty_domains.specs.Strip.{stand}
+use Rattle.empty_domains.specs.Walk.{Try, target}
 use Rattle.obd_base.specs.Lists.{below}
 use Rattle.page_surface.specs.Drawing.{Drawing, IsEmbedded, offset, points_on}
 use Rattle.page_surface.specs.Polygon.{arc, arc_count, first_side, second_side, sides}
@@ -79,4 +82,15 @@ module _ (d : Drawing) (ok : IsEmbedded d) (y : List ℕ) (from : IsGenerator d 
   standing_made table n e is = record {
     size = entries (stand d y) n table is ∙ e;
     each = λ k l. entry_at (stand d y) n table is k (omega (arith, e));
+  }
+
+  -- away from the arcs of a try the numbers are those of the points to which it leads
+  pub others_kept : (t : Try) (x from : List ℕ) → x ≡ target d y t → IsStanding d y from → KeepsOthers d x t from
+  others_kept t x from e is = record {
+    size = is.size;
+    each = λ k l n m. (
+        let a = arc d.polygon k in
+        let p = point_of d (t.start + t.width) in
+        let same : get_or x a 0 ≡ get_or y a 0 = ap (λ zs. get_or zs a 0) e ∙ (get_or-set_other (set y t.first p) t.second a _ 0 m ∙ get_or-set_other y t.first a p 0 n) in
+        is.each k l ∙ ap (λ j. cond (eqb (first_side d.polygon a) k) (point_name d a j) (opposite d (point_name d a j))) (sym same));
   }

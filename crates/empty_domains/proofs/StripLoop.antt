@@ -1,31 +1,8 @@
 -- One step of the loop that walks a strip by tables.
-use Rattle.std.proofs.Common.{◌≡◌, ℕ, suc, Bool, true, false, cond, Option, None, Some, List, [], ◌++◌, append_assoc, get_or, refl, set, sym, ap, ◌∙◌}
-use Rattle.std.proofs.lemmas.Bool.{false≢true}
+use Rattle.std.proofs.Common.{◌≡◌, ℕ, suc, true, false, cond, List, [], ◌++◌, append_assoc, get_or, refl, set, sym, ap, ◌∙◌}
 use Rattle.std.proofs.lemmas.List.{append-nil}
 use Rattle.empty_domains.specs.Ground.{Ground, bigon_by, ends_by, rectangle_by, strip_by, widest_by}
 use Rattle.empty_domains.specs.Strip.{Step, spacing}
-
--- whether some number was told
-told : Option ℕ → Bool
-told None = false
-told (Some n) = true
-
--- the number
-number : Option ℕ → ℕ
-number None = 0
-number (Some n) = n
-
--- a width is told where the strip goes on
-pub goes_on : (b : Bool) (w v : ℕ) → cond b None (Some w) ≡ Some v → (b ≡ false) × (w ≡ v)
-unfolding number told
-goes_on true w v e = absurd (false≢true (ap told e))
-goes_on false w v e = (refl, ap number e)
-
--- and none where it ends
-pub goes_off : (b : Bool) (w : ℕ) → cond b None (Some w) ≡ None → b ≡ true
-unfolding told
-goes_off true w e = refl
-goes_off false w e = absurd (false≢true (sym (ap told e)))
 
 module _ (g : Ground) (standing : List ℕ) (i a : ℕ) where
   -- how wide the row is

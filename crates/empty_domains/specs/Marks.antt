@@ -48,3 +48,15 @@ row_rule_by g from to marked width start = list_all (λ i. column_rule_by g from
 -- of all rows
 abbrev pub rows_rule_by : Ground → List ℕ → List ℕ → (ℕ → Bool) → ℕ → List ℕ → Bool
 rows_rule_by g from to marked width rows = list_all (λ start. row_rule_by g from to marked width start) rows
+
+-- at so many points from one on, and the one behind them
+abbrev pub edge_rule_by : Ground → List ℕ → List ℕ → (ℕ → Bool) → ℕ → ℕ → Bool
+edge_rule_by g from to marked width start = list_all (λ i. spot_rule_by g from to marked (start + i)) (below (suc width))
+
+-- along the far edges of rows
+abbrev pub far_edges_rule_by : Ground → List ℕ → List ℕ → (ℕ → Bool) → ℕ → List ℕ → Bool
+far_edges_rule_by g from to marked width rows = list_all (λ start. edge_rule_by g from to marked width (slice_index g.other (start + width))) rows
+
+-- along the first row and all far edges
+abbrev pub edges_rule_by : Ground → List ℕ → List ℕ → (ℕ → Bool) → ℕ → ℕ → List ℕ → Bool
+edges_rule_by g from to marked width start rows = edge_rule_by g from to marked width start && far_edges_rule_by g from to marked width rows

@@ -98,8 +98,8 @@ pub(crate) fn domains_of(
     ensures { IfOk result (λ domains. AreFound diagram.now y.now generators.now steps.now domains.items) }
 {
     let mut domains = Vec::new(alloc);
-    let mut rows = Vec::new(alloc);
-    let mut found = Vec::new(alloc);
+    let mut rows = Vec::with_capacity(alloc, pieces.len())?;
+    let mut found = Vec::with_capacity(alloc, pieces.len())?;
     let mut marks = vec![in alloc; false; pieces.len()]?;
     for step in steps {
         let led = verify(

@@ -1,11 +1,11 @@
 // The rules of domains near the rows of a step.
-ghost use Rattle.std.specs.Prelude.{◌≡◌, ℕ, ◌+◌, ◌<◌, ◌≤◌, ◌&&◌, ◌^◌, cond, length, slice_index};
+ghost use Rattle.std.specs.Prelude.{◌≡◌, ℕ, ◌+◌, ◌<◌, ◌≤◌, ◌&&◌, ◌^◌, cond, length, nat_eq, slice_index, suc};
 ghost use Rattle.obd_base.specs.Lists.{Mem};
 ghost use Rattle.page_surface.specs.Drawing.{IsEmbedded};
 ghost use Rattle.page_surface.specs.Polygon.{arc_count};
 ghost use Rattle.hkm_diagram.specs.Domains.{rule_at};
 ghost use Rattle.empty_domains.specs.Ground.{IsSpot, spot_rule_by};
-ghost use Rattle.empty_domains.specs.Marks.{AreNear, arc_rule_by, arcs_rule_by, column_rule_by, marked_by, row_rule_by, rows_rule_by};
+ghost use Rattle.empty_domains.specs.Marks.{AreNear, arc_rule_by, arcs_rule_by, edge_rule_by, edges_rule_by, far_edges_rule_by, marked_by};
 
 use crate::tables::Tables;
 use hkm_diagram::Diagram;
@@ -38,7 +38,32 @@ fn mark(pieces: &[u32], marks: &[bool], span: u32) -> u32
     }
 }
 
-// Whether the rule holds at a point.
+// Whether the rule holds at a point, by where both generators stand on its side and by the marks before and after it.
+fn point_keeps(
+    tables: &Tables,
+    pieces: &[u32],
+    marks: &[bool],
+    from: u32,
+    to: u32,
+    at: u32,
+    before: u32,
+    after: u32,
+) -> bool
+    requires at { at < length tables.now.other }
+    requires name { suc (slice_index tables.now.opposite at) < length pieces.now }
+    requires marks { (s : ℕ) → slice_index pieces.now s < length marks.now }
+    requires few { length pieces.now < 2 ^ 30 }
+    requires before { before ≤ 1 }
+    requires after { after ≤ 1 }
+    ensures { result ≡ rule_at (nat_eq from at) (nat_eq to at) (after + cond (marked_by pieces.now marks.now (suc (slice_index tables.now.opposite at))) 1 0) (before + cond (marked_by pieces.now marks.now (slice_index tables.now.opposite at)) 1 0) }
+{
+    let name = tables.opposite(at);
+    let out = after + mark(pieces, marks, name + 1);
+    let into = before + mark(pieces, marks, name);
+    keeps_rule(from == at, to == at, out, into)
+}
+
+// Whether it holds at a point.
 fn spot_keeps(
     diagram: &Diagram,
     tables: &Tables,
@@ -53,11 +78,12 @@ fn spot_keeps(
     requires spot { IsSpot diagram.now at }
     ensures { result ≡ spot_rule_by tables.now from.now to.now (marked_by pieces.now marks.now) at }
 {
-    let name = tables.opposite(at);
     let side = tables.side(at) as usize;
-    let out = mark(pieces, marks, at + 1) + mark(pieces, marks, name + 1);
-    let into = mark(pieces, marks, at) + mark(pieces, marks, name);
-    keeps_rule(from[side] == at, to[side] == at, out, into)
+    let before = mark(pieces, marks, at);
+    let after = mark(pieces, marks, at + 1);
+    point_keeps(
+        tables, pieces, marks, from[side], to[side], at, before, after,
+    )
 }
 
 // Whether it holds at the points of both generators on an arc.
@@ -79,7 +105,8 @@ fn arc_keeps(
 {
     let side = polygon.first_side(ArcNo::new(arc)).number() as usize;
     spot_keeps(diagram, tables, pieces, marks, from, to, from[side])
-        && spot_keeps(diagram, tables, pieces, marks, from, to, to[side])
+        && (to[side] == from[side]
+            || spot_keeps(diagram, tables, pieces, marks, from, to, to[side]))
 }
 
 // Whether it does on all arcs.
@@ -105,27 +132,8 @@ fn arcs_keep(
     true
 }
 
-// Whether it holds at a point of a row and at the other end of the chord there.
-fn column_keeps(
-    diagram: &Diagram,
-    tables: &Tables,
-    pieces: &[u32],
-    marks: &[bool],
-    from: &[u32],
-    to: &[u32],
-    at: u32,
-) -> bool
-    requires valid { IsEmbedded diagram.now }
-    requires near { AreNear diagram.now tables.now pieces.now marks.now from.now to.now }
-    requires spot { IsSpot diagram.now at }
-    ensures { result ≡ column_rule_by tables.now from.now to.now (marked_by pieces.now marks.now) at }
-{
-    spot_keeps(diagram, tables, pieces, marks, from, to, at)
-        && spot_keeps(diagram, tables, pieces, marks, from, to, tables.other(at))
-}
-
-// Whether it does along a row.
-fn row_keeps(
+// Whether it holds at so many points from one on, and at the one behind them.
+fn edge_keeps(
     diagram: &Diagram,
     tables: &Tables,
     pieces: &[u32],
@@ -139,18 +147,25 @@ fn row_keeps(
     requires near { AreNear diagram.now tables.now pieces.now marks.now from.now to.now }
     requires spots { (i : ℕ) → i ≤ width → IsSpot diagram.now (start + i) }
     requires few { width < 2 ^ 30 }
-    ensures { result ≡ row_rule_by tables.now from.now to.now (marked_by pieces.now marks.now) width start }
+    ensures { result ≡ edge_rule_by tables.now from.now to.now (marked_by pieces.now marks.now) width start }
 {
+    let side = tables.side(start) as usize;
+    let mut before = mark(pieces, marks, start);
     for column in 0..width + 1 {
-        if !column_keeps(diagram, tables, pieces, marks, from, to, start + column) {
+        let at = start + column;
+        let after = mark(pieces, marks, at + 1);
+        if !point_keeps(
+            tables, pieces, marks, from[side], to[side], at, before, after,
+        ) {
             return false;
         }
+        before = after;
     }
     true
 }
 
-// Whether it does along all rows.
-fn rows_keep(
+// Whether it does along the far edges of all rows.
+fn far_edges_keep(
     diagram: &Diagram,
     tables: &Tables,
     pieces: &[u32],
@@ -162,19 +177,22 @@ fn rows_keep(
 ) -> bool
     requires valid { IsEmbedded diagram.now }
     requires near { AreNear diagram.now tables.now pieces.now marks.now from.now to.now }
-    requires spots { (start : ℕ) → Mem start rows.now → (i : ℕ) → i ≤ width → IsSpot diagram.now (start + i) }
+    requires rows { (start : ℕ) → Mem start rows.now → start + width < length tables.now.other }
+    requires spots { (start : ℕ) → Mem start rows.now → (i : ℕ) → i ≤ width → IsSpot diagram.now (slice_index tables.now.other (start + width) + i) }
     requires few { width < 2 ^ 30 }
-    ensures { result ≡ rows_rule_by tables.now from.now to.now (marked_by pieces.now marks.now) width rows.now }
+    ensures { result ≡ far_edges_rule_by tables.now from.now to.now (marked_by pieces.now marks.now) width rows.now }
 {
     for start in rows {
-        if !row_keeps(diagram, tables, pieces, marks, from, to, *start, width) {
+        let far = tables.other(*start + width);
+        if !edge_keeps(diagram, tables, pieces, marks, from, to, far, width) {
             return false;
         }
     }
     true
 }
 
-// Whether the rule holds at all points near the rows of a step.
+// Whether the rule holds at all points near the rows of a step: along the first row and the far edges of all rows, since
+// each further row has the same points as the far edge before it.
 pub(crate) fn keeps_near(
     diagram: &Diagram,
     polygon: &Polygon,
@@ -183,16 +201,20 @@ pub(crate) fn keeps_near(
     marks: &[bool],
     from: &[u32],
     to: &[u32],
+    start: u32,
     rows: &[u32],
     width: u32,
 ) -> bool
     requires valid { IsEmbedded diagram.now }
     requires polygon { polygon.now ≡ diagram.now.polygon }
     requires near { AreNear diagram.now tables.now pieces.now marks.now from.now to.now }
-    requires spots { (start : ℕ) → Mem start rows.now → (i : ℕ) → i ≤ width → IsSpot diagram.now (start + i) }
+    requires first { (i : ℕ) → i ≤ width → IsSpot diagram.now (start + i) }
+    requires rows { (start : ℕ) → Mem start rows.now → start + width < length tables.now.other }
+    requires spots { (start : ℕ) → Mem start rows.now → (i : ℕ) → i ≤ width → IsSpot diagram.now (slice_index tables.now.other (start + width) + i) }
     requires few { width < 2 ^ 30 }
-    ensures { result ≡ (arcs_rule_by diagram.now tables.now from.now to.now (marked_by pieces.now marks.now) && rows_rule_by tables.now from.now to.now (marked_by pieces.now marks.now) width rows.now) }
+    ensures { result ≡ (arcs_rule_by diagram.now tables.now from.now to.now (marked_by pieces.now marks.now) && edges_rule_by tables.now from.now to.now (marked_by pieces.now marks.now) width start rows.now) }
 {
     arcs_keep(diagram, polygon, tables, pieces, marks, from, to)
-        && rows_keep(diagram, tables, pieces, marks, from, to, rows, width)
+        && edge_keeps(diagram, tables, pieces, marks, from, to, start, width)
+        && far_edges_keep(diagram, tables, pieces, marks, from, to, rows, width)
 }

@@ -12,6 +12,7 @@ use crate::tables::Tables;
 use hkm_diagram::Diagram;
 use obd_base::{ArcNo, NoMemory};
 use page_surface::Polygon;
+use smallvec::SmallVec;
 use std::alloc::Global;
 
 // No row began on any side.
@@ -93,7 +94,7 @@ pub(crate) fn all_steps(
     requires lasts { length lasts.old ≡ length tables.now.ends }
     ensures { IfOk result (λ steps. steps.items ≡ all_strips_by tables.now standing.now diagram.now) }
 {
-    let mut steps = Vec::new(alloc);
+    let mut steps = Vec::with_capacity(alloc, 2 * standing.len())?;
     for arc in 0..polygon.sides() / 2 {
         arc_steps(diagram, polygon, tables, standing, arc, lasts, &mut steps)?;
     }
@@ -114,6 +115,6 @@ pub(crate) fn steps_from(
     requires standing { (y : List ℕ) × IsGenerator diagram.now y × IsStanding diagram.now y standing.now }
     ensures { (y : List ℕ) → IsGenerator diagram.now y → IsStanding diagram.now y standing.now → IfOk result (λ steps. steps.items ≡ all_strips diagram.now y) }
 {
-    let mut lasts = vec![in alloc; 0u32; standing.len()]?;
+    let mut lasts: SmallVec<u32, 16> = SmallVec::from_elem(alloc, 0, standing.len())?;
     all_steps(alloc, diagram, polygon, tables, standing, &mut lasts)
 }

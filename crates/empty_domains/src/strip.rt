@@ -1,5 +1,5 @@
 // The strip behind a corner: rows of pieces from one glued edge to the next, with the steps that are read off.
-ghost use Rattle.std.specs.Prelude.{◌≡◌, ◌+◌, ◌<◌, ◌^◌, ◌++◌, cond, length, map, slice_index, suc, None, Some, IfOk, OnOk};
+ghost use Rattle.std.specs.Prelude.{◌≡◌, ◌+◌, ◌<◌, ◌^◌, ◌++◌, false, length, map, slice_index, slice_set, suc, true, IfNone, IfOk, IfSome, OnOk};
 ghost use Rattle.empty_domains.specs.Ground.{bigon_by, ends_by, rectangle_by, room_by, strip_by, widest_by};
 ghost use Rattle.empty_domains.specs.Strip.{spacing};
 
@@ -74,13 +74,13 @@ fn read_bigon(
     tables: &Tables,
     corner: Corner,
     row: Row,
+    back: u32,
     width: u32,
     steps: &mut Vec<Step>,
 ) -> Result<(), NoMemory>
-    requires { row.at < length tables.now.other }
+    requires { back ≡ slice_index tables.now.other row.at }
     ensures { OnOk result (steps.new.items ≡ steps.old.items ++ bigon_by tables.now corner.arc corner.start row.at width row.number) }
 {
-    let back = tables.other(row.at);
     if row.at < back && back - row.at <= width {
         steps.push(Step {
             arc: corner.arc,
@@ -101,14 +101,16 @@ fn read_rectangle(
     standing: &[u32],
     corner: Corner,
     row: Row,
+    back: u32,
     width: u32,
     steps: &mut Vec<Step>,
 ) -> Result<(), NoMemory>
     requires at { row.at < length tables.now.other }
+    requires back { back ≡ slice_index tables.now.other row.at }
+    requires inside { back < length tables.now.other }
     requires standing { length standing.now ≡ length tables.now.ends }
     ensures { OnOk result (steps.new.items ≡ steps.old.items ++ rectangle_by tables.now standing.now corner.arc corner.start row.at width row.number) }
 {
-    let back = tables.other(row.at);
     let side = tables.side(back);
     let stop = standing[side as usize];
     let second = tables.arc(side);
@@ -125,55 +127,57 @@ fn read_rectangle(
     Ok(())
 }
 
-// Whether a strip ends behind a row whose first chord leads to a number.
-fn ends(tables: &Tables, standing: &[u32], back: u32, width: u32) -> bool
+// Whether a strip ends behind a row whose first chord leads to a number with another name.
+fn ends(tables: &Tables, standing: &[u32], back: u32, next: u32, width: u32) -> bool
     requires back { back < length tables.now.other }
+    requires next { next ≡ slice_index tables.now.opposite back }
+    requires inside { next < length tables.now.other }
     requires standing { length standing.now ≡ length tables.now.ends }
     ensures { result ≡ ends_by tables.now standing.now back width }
 {
-    let next = tables.opposite(back);
     width == 0 || tables.room(back) == 0 || standing[tables.side(next) as usize] == next
 }
 
-// Notes what is read off at a row, and tells how wide the row is where the strip goes on behind it.
+// Notes what is read off at a row and where it began, and tells the row behind it where the strip goes on.
 fn read_row(
     tables: &Tables,
     standing: &[u32],
-    lasts: &[u32],
+    lasts: &mut [u32],
     corner: Corner,
     row: Row,
     steps: &mut Vec<Step>,
-) -> Result<Option<u32>, NoMemory>
+) -> Result<Option<Row>, NoMemory>
     requires at { row.at < length tables.now.other }
+    requires number { row.number + 1 < 2 ^ 32 }
+    requires few { length tables.now.other < 2 ^ 32 }
     requires standing { length standing.now ≡ length tables.now.ends }
-    requires lasts { length lasts.now ≡ length tables.now.ends }
-    ensures steps { OnOk result (steps.new.items ≡ steps.old.items ++ (bigon_by tables.now corner.arc corner.start row.at (widest_by tables.now standing.now row.at (spacing lasts.now (slice_index tables.now.side row.at) row.at row.most)) row.number ++ rectangle_by tables.now standing.now corner.arc corner.start row.at (widest_by tables.now standing.now row.at (spacing lasts.now (slice_index tables.now.side row.at) row.at row.most)) row.number)) }
-    ensures wide { IfOk result (λ wide. wide ≡ cond (ends_by tables.now standing.now (slice_index tables.now.other row.at) (widest_by tables.now standing.now row.at (spacing lasts.now (slice_index tables.now.side row.at) row.at row.most))) None (Some (widest_by tables.now standing.now row.at (spacing lasts.now (slice_index tables.now.side row.at) row.at row.most)))) }
-{
-    let width = width(tables, standing, lasts, row);
-    read_bigon(tables, corner, row, width, steps)?;
-    read_rectangle(tables, standing, corner, row, width, steps)?;
-    if ends(tables, standing, tables.other(row.at), width) {
-        Ok(None)
-    } else {
-        Ok(Some(width))
-    }
-}
+    requires lasts { length lasts.old ≡ length tables.now.ends }
+    ensures steps { OnOk result (steps.new.items ≡ steps.old.items ++ (bigon_by tables.now corner.arc corner.start row.at (widest_by tables.now standing.now row.at (spacing lasts.old (slice_index tables.now.side row.at) row.at row.most)) row.number ++ rectangle_by tables.now standing.now corner.arc corner.start row.at (widest_by tables.now standing.now row.at (spacing lasts.old (slice_index tables.now.side row.at) row.at row.most)) row.number)) }
+    ensures last { IfOk result (λ next. IfNone next (ends_by tables.now standing.now (slice_index tables.now.other row.at) (widest_by tables.now standing.now row.at (spacing lasts.old (slice_index tables.now.side row.at) row.at row.most)) ≡ true)) }
 
-// The row behind a row, over the other end of its first chord.
-fn next_row(tables: &Tables, row: Row, width: u32) -> Row
-    requires at { row.at < length tables.now.other }
-    requires few { row.number + 1 < 2 ^ 32 }
-    ensures at { result.at ≡ slice_index tables.now.opposite (slice_index tables.now.other row.at) }
-    ensures inside { result.at < length tables.now.other }
-    ensures most { result.most ≡ width }
-    ensures number { result.number ≡ suc row.number }
+    ensures goes_on { IfOk result (λ next. IfSome next (λ r. ends_by tables.now standing.now (slice_index tables.now.other row.at) (widest_by tables.now standing.now row.at (spacing lasts.old (slice_index tables.now.side row.at) row.at row.most)) ≡ false)) }
+    ensures at { IfOk result (λ next. IfSome next (λ r. r.at ≡ slice_index tables.now.opposite (slice_index tables.now.other row.at))) }
+    ensures inside { IfOk result (λ next. IfSome next (λ r. r.at < length tables.now.other)) }
+    ensures most { IfOk result (λ next. IfSome next (λ r. r.most ≡ (widest_by tables.now standing.now row.at (spacing lasts.old (slice_index tables.now.side row.at) row.at row.most)))) }
+    ensures number { IfOk result (λ next. IfSome next (λ r. r.number ≡ suc row.number)) }
+    ensures began { IfOk result (λ next. IfSome next (λ r. lasts.new ≡ slice_set lasts.old (slice_index tables.now.side row.at) (suc row.at))) }
+    ensures size { length lasts.new ≡ length lasts.old }
 {
-    Row {
-        at: tables.opposite(tables.other(row.at)),
+    let side = tables.side(row.at) as usize;
+    let back = tables.other(row.at);
+    let next = tables.opposite(back);
+    let width = width(tables, standing, lasts, row);
+    read_bigon(tables, corner, row, back, width, steps)?;
+    read_rectangle(tables, standing, corner, row, back, width, steps)?;
+    if ends(tables, standing, back, next, width) {
+        return Ok(None);
+    }
+    lasts[side] = row.at + 1;
+    Ok(Some(Row {
+        at: next,
         most: width,
         number: row.number + 1,
-    }
+    }))
 }
 
 // Puts the steps of the strip behind a corner last. Before it no row began on any side.
@@ -197,10 +201,7 @@ pub(crate) fn strip(
     };
     while row.number < tables.count() {
         match read_row(tables, standing, lasts, corner, row, steps)? {
-            Some(width) => {
-                lasts[tables.side(row.at) as usize] = row.at + 1;
-                row = next_row(tables, row, width);
-            }
+            Some(next) => row = next,
             None => return Ok(()),
         }
     }

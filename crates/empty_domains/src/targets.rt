@@ -45,8 +45,8 @@ pub(crate) fn targets_of(
     ensures { IfOk result (λ targets. AreLed diagram.now y.now generators.now steps.now targets.items) }
 {
     let mut targets = Vec::new(alloc);
-    let mut rows = Vec::new(alloc);
-    let mut found = Vec::new(alloc);
+    let mut rows = Vec::with_capacity(alloc, pieces.len())?;
+    let mut found = Vec::with_capacity(alloc, pieces.len())?;
     let mut marks = vec![in alloc; false; pieces.len()]?;
     for step in steps {
         let led = verify(

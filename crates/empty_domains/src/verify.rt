@@ -18,7 +18,7 @@ ghost use Rattle.region_table.specs.Nice.{IsNice};
 
 use crate::collect::{bigons, collect, unmark};
 use crate::drawing_tables::points_on;
-use crate::generator_sides::standing;
+use crate::generator_sides::moved_standing;
 use crate::rules::keeps_near;
 use crate::starts::{is_fresh, row_starts};
 use crate::strip::Step;
@@ -27,6 +27,7 @@ use generator_list::Generators;
 use hkm_diagram::Diagram;
 use obd_base::{GenNo, NoMemory, SideNo};
 use page_surface::Polygon;
+use smallvec::SmallVec;
 use std::alloc::Global;
 
 // The number of a point on its arc.
@@ -52,7 +53,33 @@ fn point_at(diagram: &Diagram, polygon: &Polygon, tables: &Tables, starts: &[u32
     }
 }
 
-// The points to which a step leads: the far ends of its edges on arcs stand for the generator's points there.
+// Moves a generator's points to those to which a step leads: the far ends of its edges on arcs stand for its points there.
+fn move_points(
+    diagram: &Diagram,
+    polygon: &Polygon,
+    tables: &Tables,
+    starts: &[u32],
+    step: Step,
+    x: &mut [u32],
+)
+    requires valid { IsEmbedded diagram.now }
+    requires polygon { polygon.now ≡ diagram.now.polygon }
+    requires tables { IsGround diagram.now tables.now }
+    requires starts { starts.now ≡ offsets_of diagram.now }
+    requires points { length x.old ≡ arc_count diagram.now.polygon }
+    requires first { step.by.first < arc_count diagram.now.polygon }
+    requires second { step.by.second < arc_count diagram.now.polygon }
+    requires start { IsSpot diagram.now (step.by.start + step.by.width) }
+    requires stop { IsSpot diagram.now (step.by.stop + step.by.width) }
+    requires few { span_count diagram.now < 2 ^ 30 }
+    ensures points { x.new ≡ target diagram.now x.old step.by }
+    ensures size { length x.new ≡ length x.old }
+{
+    x[step.arc as usize] = point_at(diagram, polygon, tables, starts, step.start + step.width);
+    x[step.second as usize] = point_at(diagram, polygon, tables, starts, step.stop + step.width);
+}
+
+// The points to which a step leads.
 fn led_points(
     alloc: Global,
     diagram: &Diagram,
@@ -61,7 +88,7 @@ fn led_points(
     starts: &[u32],
     y: &[u32],
     step: Step,
-) -> Result<Vec<u32>, NoMemory>
+) -> Result<SmallVec<u32, 8>, NoMemory>
     requires valid { IsEmbedded diagram.now }
     requires polygon { polygon.now ≡ diagram.now.polygon }
     requires tables { IsGround diagram.now tables.now }
@@ -74,9 +101,8 @@ fn led_points(
     requires few { span_count diagram.now < 2 ^ 30 }
     ensures { IfOk result (λ x. x.items ≡ target diagram.now y.now step.by) }
 {
-    let mut x = Vec::from_slice(alloc, y)?;
-    x[step.arc as usize] = point_at(diagram, polygon, tables, starts, step.start + step.width);
-    x[step.second as usize] = point_at(diagram, polygon, tables, starts, step.stop + step.width);
+    let mut x = SmallVec::from_slice(alloc, y)?;
+    move_points(diagram, polygon, tables, starts, step, &mut x);
     Ok(x)
 }
 
@@ -121,9 +147,9 @@ fn led_to(
     if bigons(&tables.other, found) != wanted {
         return Ok(None);
     }
-    let to = standing(alloc, diagram, polygon, starts, &x)?;
+    let to = moved_standing(alloc, diagram, polygon, tables, starts, &x, step, from)?;
     if keeps_near(
-        diagram, polygon, tables, pieces, marks, from, &to, rows, step.width,
+        diagram, polygon, tables, pieces, marks, from, &to, step.start, rows, step.width,
     ) {
         Ok(Some(number))
     } else {

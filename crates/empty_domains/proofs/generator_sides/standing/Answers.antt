@@ -6,7 +6,7 @@ use Rattle.region_table.proofs.ChordTables.{told_more}
 use Rattle.empty_domains.proofs.generator_sides.standing.Goals as goal
 
 pub loop-side-preserved : goal.loop-side-preserved
-loop-side-preserved c = told_more (stand c.args.diagram.now c.args.points.now) c.loop-side.side _ _ _ c.loop-side.invariant c.stand.ensures c.in_ok-push.ensures.items
+loop-side-preserved c = told_more (stand c.args.diagram.now c.args.points.now) c.loop-side.side _ _ _ c.loop-side.invariant c.stand.ensures c.in_ok-push.ensures.ok
 
 pub returns : goal.returns
 returns c =

@@ -1,48 +1,30 @@
-use Rattle.std.proofs.Common.{◌+◌, ap, arith, eqb, get_or}
-use Rattle.empty_domains.proofs.SpotReads.{name_next_in, next_in, rule_read}
+use Rattle.std.proofs.Common.{◌+◌, arith, refl}
+use Rattle.empty_domains.proofs.SpotReads.{name_next_in, next_in, rule_on}
 use Rattle.empty_domains.specs.Marks.{marked_by}
 use Rattle.empty_domains.proofs.rules.spot_keeps.Goals as goal
-
-pub opposite-name-requires : goal.opposite-name-requires
-opposite-name-requires c = omega (arith, next_in c.args.diagram.now c.requires.valid c.args.tables.now c.args.pieces.now c.args.marks.now c.args.from.now c.args.to.now c.requires.near c.args.at c.requires.spot)
 
 pub side-side-requires : goal.side-side-requires
 side-side-requires c = omega (arith, next_in c.args.diagram.now c.requires.valid c.args.tables.now c.args.pieces.now c.args.marks.now c.args.from.now c.args.to.now c.requires.near c.args.at c.requires.spot)
 
+pub mark-before-requires-clause-span : goal.mark-before-requires-clause-span
+mark-before-requires-clause-span c = omega (arith, c.requires.near.pieces_size, next_in c.args.diagram.now c.requires.valid c.args.tables.now c.args.pieces.now c.args.marks.now c.args.from.now c.args.to.now c.requires.near c.args.at c.requires.spot)
+
 pub overflow_add-at : goal.overflow_add-at
-overflow_add-at c =
-    omega (arith, c.requires.near.few, next_in c.args.diagram.now c.requires.valid c.args.tables.now c.args.pieces.now c.args.marks.now c.args.from.now c.args.to.now c.requires.near c.args.at c.requires.spot)
+overflow_add-at c = omega (arith, c.requires.near.few, next_in c.args.diagram.now c.requires.valid c.args.tables.now c.args.pieces.now c.args.marks.now c.args.from.now c.args.to.now c.requires.near c.args.at c.requires.spot)
 
-pub mark-requires-clause-span : goal.mark-requires-clause-span
-mark-requires-clause-span c =
-    omega (arith, c.requires.near.pieces_size, next_in c.args.diagram.now c.requires.valid c.args.tables.now c.args.pieces.now c.args.marks.now c.args.from.now c.args.to.now c.requires.near c.args.at c.requires.spot)
+pub mark-after-requires-clause-span : goal.mark-after-requires-clause-span
+mark-after-requires-clause-span c = omega (arith, c.requires.near.pieces_size, next_in c.args.diagram.now c.requires.valid c.args.tables.now c.args.pieces.now c.args.marks.now c.args.from.now c.args.to.now c.requires.near c.args.at c.requires.spot)
 
-pub overflow_add-name : goal.overflow_add-name
-overflow_add-name c =
-    omega (
-      arith,
-      c.requires.near.few,
-      c.opposite-name.ensures.value,
-      name_next_in c.args.diagram.now c.requires.valid c.args.tables.now c.args.pieces.now c.args.marks.now c.args.from.now c.args.to.now c.requires.near c.args.at c.requires.spot,
-    )
+pub point_keeps-requires-clause-at : goal.point_keeps-requires-clause-at
+point_keeps-requires-clause-at c = omega (arith, next_in c.args.diagram.now c.requires.valid c.args.tables.now c.args.pieces.now c.args.marks.now c.args.from.now c.args.to.now c.requires.near c.args.at c.requires.spot)
 
-pub mark-requires-2-clause-span : goal.mark-requires-2-clause-span
-mark-requires-2-clause-span c =
-    omega (
-      arith,
-      c.requires.near.pieces_size,
-      c.opposite-name.ensures.value,
-      name_next_in c.args.diagram.now c.requires.valid c.args.tables.now c.args.pieces.now c.args.marks.now c.args.from.now c.args.to.now c.requires.near c.args.at c.requires.spot,
-    )
+pub point_keeps-requires-clause-name : goal.point_keeps-requires-clause-name
+point_keeps-requires-clause-name c = omega (arith, c.requires.near.pieces_size, name_next_in c.args.diagram.now c.requires.valid c.args.tables.now c.args.pieces.now c.args.marks.now c.args.from.now c.args.to.now c.requires.near c.args.at c.requires.spot)
 
-pub mark-requires-3-clause-span : goal.mark-requires-3-clause-span
-mark-requires-3-clause-span c =
-    omega (arith, c.requires.near.pieces_size, next_in c.args.diagram.now c.requires.valid c.args.tables.now c.args.pieces.now c.args.marks.now c.args.from.now c.args.to.now c.requires.near c.args.at c.requires.spot)
+pub point_keeps-requires-clause-few : goal.point_keeps-requires-clause-few
+point_keeps-requires-clause-few c = omega (arith, c.requires.near.pieces_size, c.requires.near.few)
 
 pub returns : goal.returns
 returns c =
-    let g = c.args.tables.now in
-    rule_read g c.args.from.now c.args.to.now (marked_by c.args.pieces.now c.args.marks.now) c.args.at c.opposite-name.result c.side-side.result (c.args.at + 1) (c.opposite-name.result + 1)
-    c.mark.result c.mark-2.result c.mark-3.result c.mark-4.result c.keeps_rule.result _ _ c.opposite-name.ensures.value (omega arith) (omega arith)
-    (ap (λ k. eqb (get_or c.args.from.now k 0) c.args.at) c.side-side.ensures.value) (ap (λ k. eqb (get_or c.args.to.now k 0) c.args.at) c.side-side.ensures.value)
-    c.mark.ensures.value c.mark-2.ensures.value c.mark-3.ensures.value c.mark-4.ensures.value c.keeps_rule.ensures
+    rule_on c.args.tables.now c.args.from.now c.args.to.now (marked_by c.args.pieces.now c.args.marks.now) c.args.at (c.args.at + 1) c.side-side.result _ _ c.mark-before.result c.mark-after.result c.point_keeps.result
+    c.side-side.ensures.value (omega arith) refl refl c.mark-before.ensures.value c.mark-after.ensures.value c.point_keeps.ensures

@@ -29,7 +29,7 @@ steps_from-requires-clause-standing c =
     let d = c.args.diagram.now in
     let gens = c.args.generators.now in
     let from : IsGenerator d c.points-y.result.now = subst (λ (z : List ℕ). IsGenerator d z) (sym c.points-y.ensures) (listed_at d gens c.args.from c.requires.generators c.requires.from) in
-    let on : IsStanding d c.points-y.result.now c.deref-2.result.now = subst (λ (z : List ℕ). IsStanding d c.points-y.result.now z) (sym c.deref-2.ensures.value) c.in_ok-standing.ensures in
+    let on : IsStanding d c.points-y.result.now c.deref-2.result.now = subst (λ (z : List ℕ). IsStanding d c.points-y.result.now z) (sym c.deref-2.ensures) c.in_ok-standing.ensures in
     (c.points-y.result.now, from, on)
 
 pub returns : goal.returns
@@ -38,7 +38,7 @@ returns c =
     let ok : IsEmbedded d = subst (λ (w : Drawing). IsEmbedded w) c.drawing.ensures c.points.ensures.valid in
     let gens = c.args.generators.now in
     let from : IsGenerator d c.points-y.result.now = subst (λ (z : List ℕ). IsGenerator d z) (sym c.points-y.ensures) (listed_at d gens c.args.from c.requires.generators c.requires.from) in
-    let on : IsStanding d c.points-y.result.now c.deref-2.result.now = subst (λ (z : List ℕ). IsStanding d c.points-y.result.now z) (sym c.deref-2.ensures.value) c.in_ok-standing.ensures in
+    let on : IsStanding d c.points-y.result.now c.deref-2.result.now = subst (λ (z : List ℕ). IsStanding d c.points-y.result.now z) (sym c.deref-2.ensures) c.in_ok-standing.ensures in
     IfOk-weaker c.steps_from.result _ _ (λ steps e. subst (λ (z : List ℕ). IsWalk d z (step_leads d z steps.items)) c.points-y.ensures
     (subst (λ (ss : List Step). IsWalk d c.points-y.result.now (step_leads d c.points-y.result.now ss)) (sym e) (strips_find_all d ok c.requires.nice c.points-y.result.now from)))
     (c.steps_from.ensures c.points-y.result.now from on)

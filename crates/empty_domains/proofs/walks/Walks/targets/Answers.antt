@@ -28,7 +28,7 @@ steps_from-requires-clause-standing c =
     let d = c.args.diagram.now in
     let gens = c.args.generators.now in
     let from : IsGenerator d c.points-y.result.now = subst (λ (z : List ℕ). IsGenerator d z) (sym c.points-y.ensures) (listed_at d gens c.args.from c.requires.generators c.requires.from) in
-    let on : IsStanding d c.points-y.result.now c.deref-2.result.now = subst (λ (z : List ℕ). IsStanding d c.points-y.result.now z) (sym c.deref-2.ensures.value) c.in_ok-standing.ensures in
+    let on : IsStanding d c.points-y.result.now c.deref-2.result.now = subst (λ (z : List ℕ). IsStanding d c.points-y.result.now z) (sym c.deref-2.ensures) c.in_ok-standing.ensures in
     (c.points-y.result.now, from, on)
 
 pub targets_of-requires-clause-y : goal.targets_of-requires-clause-y
@@ -43,7 +43,7 @@ targets_of-requires-clause-steps c =
     let d = c.args.diagram.now in
     let gens = c.args.generators.now in
     let from : IsGenerator d c.points-y.result.now = subst (λ (z : List ℕ). IsGenerator d z) (sym c.points-y.ensures) (listed_at d gens c.args.from c.requires.generators c.requires.from) in
-    let on : IsStanding d c.points-y.result.now c.deref-2.result.now = subst (λ (z : List ℕ). IsStanding d c.points-y.result.now z) (sym c.deref-2.ensures.value) c.in_ok-standing.ensures in
+    let on : IsStanding d c.points-y.result.now c.deref-2.result.now = subst (λ (z : List ℕ). IsStanding d c.points-y.result.now z) (sym c.deref-2.ensures) c.in_ok-standing.ensures in
     c.deref-6.ensures.value ∙ c.in_ok-steps.ensures c.points-y.result.now from on
 
 pub targets_of-requires-clause-few : goal.targets_of-requires-clause-few
@@ -58,6 +58,6 @@ returns c =
     let ok : IsEmbedded d = subst (λ (w : Drawing). IsEmbedded w) c.drawing.ensures c.points.ensures.valid in
     let gens = c.args.generators.now in
     let from : IsGenerator d c.points-y.result.now = subst (λ (z : List ℕ). IsGenerator d z) (sym c.points-y.ensures) (listed_at d gens c.args.from c.requires.generators c.requires.from) in
-    let on : IsStanding d c.points-y.result.now c.deref-2.result.now = subst (λ (z : List ℕ). IsStanding d c.points-y.result.now z) (sym c.deref-2.ensures.value) c.in_ok-standing.ensures in
+    let on : IsStanding d c.points-y.result.now c.deref-2.result.now = subst (λ (z : List ℕ). IsStanding d c.points-y.result.now z) (sym c.deref-2.ensures) c.in_ok-standing.ensures in
     IfOk-weaker c.targets_of.result _ _ (λ targets led. subst (λ (z : List ℕ). AreTargets d z gens targets.items) c.points-y.ensures
     (all_targets d c.points-y.result.now gens ok c.requires.nice from c.deref-6.result.now (c.deref-6.ensures.value ∙ c.in_ok-steps.ensures c.points-y.result.now from on) targets.items led)) c.targets_of.ensures
