@@ -1,11 +1,11 @@
 -- A certificate whose lines are made from the surface, the drawings and the complex of a book is the book's.
-use Rattle.std.proofs.Common.{◌≡◌, ℕ, ℤ, ◌+◌, ◌≤◌, List, [], length, refl, sym, ◌∙◌, ap, Some, arith}
+use Rattle.std.proofs.Common.{◌≡◌, ℕ, ℤ, ◌+◌, ◌≤◌, List, length, refl, sym, ◌∙◌, ap, Some, arith}
 use Rattle.std.specs.Prelude.{pos, ◌-ℤ◌, ◌*◌}
 use Rattle.curve_paths.specs.declared.named.NamedTwist.{NamedTwist}
 use Rattle.witness_check.proofs.Laws.{contact_last, last_column}
 use Rattle.obd_doc.specs.declared.book.Book.{Book}
 use Rattle.obd_cli.specs.Opened.{named_twists}
-use Rattle.obd_cli.specs.Steps.{AreDrawings, AreLastLines, ArePageLines, IsCertificateOf, IsComplexOf, IsSurfaceOf, shown}
+use Rattle.obd_cli.specs.Steps.{AreDrawings, AreLastLines, ArePageLines, IsCertificateOf, IsComplexOf, IsSurfaceOf}
 use Rattle.obd_cli.specs.declared.certify.LastLines.{LastLines}
 use Rattle.obd_cli.specs.declared.certify.PageLines.{PageLines}
 use Rattle.obd_cli.specs.declared.complex.Complex.{Complex}
@@ -13,10 +13,10 @@ use Rattle.obd_cli.specs.declared.moves.Moved.{Moved}
 use Rattle.obd_cli.specs.declared.surface.Surface.{Surface}
 
 -- every line is that of the book
-pub all_belong : (book : Book) (s : Surface) (m : Moved) (x : Complex) (page : PageLines) (lines : LastLines) → IsSurfaceOf book s → book.slides ≡ [] → AreDrawings book s m
+pub all_belong : (book : Book) (s : Surface) (m : Moved) (x : Complex) (page : PageLines) (lines : LastLines) → IsSurfaceOf book s → AreDrawings book s m
     → book.limits.moves ≤ 20000 → book.limits.generators ≤ 20000 → length m.fingers ≤ book.limits.moves → IsComplexOf m.last book.limits.generators x
     → ArePageLines book s page → AreLastLines m.last lines
-    → (slides : List ℕ) (twists : List NamedTwist) (contact : ℕ) (homology : ℤ) → slides ≡ [] → twists ≡ named_twists book → contact + 1 ≡ x.generators → homology ≡ pos x.generators -ℤ pos (2 * x.outcome.rank)
+    → (slides : List ℕ) (twists : List NamedTwist) (contact : ℕ) (homology : ℤ) → slides ≡ book.slides → twists ≡ named_twists book → contact + 1 ≡ x.generators → homology ≡ pos x.generators -ℤ pos (2 * x.outcome.rank)
     → IsCertificateOf book (record {
       version = 1;
       polygons = page.polygons;
@@ -36,16 +36,16 @@ pub all_belong : (book : Book) (s : Surface) (m : Moved) (x : Complex) (page : P
       homology = homology;
       verdict = x.outcome.verdict;
     })
-all_belong book s m x page lines surface no_slide drawings most_moves most_generators moves complex told shown_last slides twists contact homology sl tw last ho =
+all_belong book s m x page lines surface drawings most_moves most_generators moves complex told shown_last slides twists contact homology sl tw last ho =
     let at = last ∙ complex.count in
     record {
       belongs = record {
         version = refl;
         polygons = told.polygons;
         curves = told.curves;
-        slides = sl ∙ sym no_slide;
+        slides = sl;
         twists = tw;
-        surface = shown s;
+        surface = s.slid;
         surface_is = surface.surface;
         seams = told.seams;
         basis = told.basis;

@@ -1,13 +1,16 @@
 -- A run that ends with the status of a limit has read a book that goes beyond it.
-use Rattle.std.proofs.Common.{◌≡◌, ℕ, List, [], Option, Some, None, Result, Ok, Err, inl, inr, refl, sym, ◌∙◌, ap}
+use Rattle.std.proofs.Common.{◌≡◌, ℕ, List, Option, Some, None, Result, Ok, Err, inl, inr, refl, sym, ◌∙◌, ap}
 use Rattle.std.specs.Io.KnownBytes.{Appends}
 use Rattle.curve_paths.specs.declared.twist.TooLong.{TooLong}
 use Rattle.obd_doc.specs.Document.{book_read, refusal_of}
 use Rattle.obd_doc.specs.declared.book.Book.{Book}
 use Rattle.obd_doc.specs.declared.refusal.DocRefusal.{DocRefusal}
-use Rattle.obd_cli.specs.Run.{AnswersBuilt, AnswersDoc, AnswersWords, GoesOverBudget, GoesOverLimit, Limited, Owes, Told, not_built, page_answer, too_long, usage}
+use Rattle.obd_cli.specs.Run.{AnswersDoc, AnswersSurface, AnswersWords, GoesOverBudget, GoesOverLimit, Limited, Owes, Told, page_answer}
+use Rattle.handle_slide.specs.declared.refusal.RefusedSlide.{RefusedSlide}
+use Rattle.handle_slide.specs.declared.slid.Slid.{Slid}
+use Rattle.witness_check.specs.OpenBook.{IsSurface, surface_of}
+use Rattle.obd_cli.specs.Opened.{open_book}
 use Rattle.obd_cli.specs.Words.{book_words}
-use Rattle.obd_cli.proofs.Built.{no_slide_taken}
 use Rattle.obd_cli.proofs.OverLimit.{words_budget, words_limited}
 use Rattle.obd_cli.specs.declared.status.Answer.{Answer}
 use Rattle.obd_cli.specs.declared.status.Command.{Command}
@@ -17,24 +20,24 @@ use Rattle.obd_cli.specs.declared.status.Status.TheVariants as status
 
 -- a status that comes for words of a book that go beyond a limit, and is none of those of other answers
 module _ (Goes : Book → List ℕ → Type 0) (ends : Status) (not_done : status.Done ≡ ends → ⊥) (not_refused : status.Refused ≡ ends → ⊥) (not_usage : status.Usage ≡ ends → ⊥)
-    (words_go : (book : Book) (found : Result (List (List ℕ)) TooLong) (answer : Answer) → book.slides ≡ [] → AnswersWords book found answer → answer.status ≡ ends → Goes book answer.text) where
+    (words_go : (book : Book) (s : Slid) (found : Result (List (List ℕ)) TooLong) (answer : Answer) → IsSurface (open_book book) s → AnswersWords book s found answer → answer.status ≡ ends → Goes book answer.text) where
   -- the answer of `page` hasn't this status
-  page_stays : (book : Book) (found : Result (List (List ℕ)) TooLong) → (page_answer book found).status ≡ ends → ⊥
-  page_stays book (Ok words) is = not_done is
-  page_stays book (Err long) is = not_refused is
+  page_stays : (book : Book) (s : Slid) (found : Result (List (List ℕ)) TooLong) → (page_answer book s found).status ≡ ends → ⊥
+  page_stays book s (Ok words) is = not_done is
+  page_stays book s (Err long) is = not_refused is
 
   -- an answer with it is that of `decide` to such a book
-  built_goes : (which : Command) (book : Book) (what : Option (List ℕ)) (answer : Answer) → not_built book ≡ what → AnswersBuilt which book what answer → answer.status ≡ ends
-      → (which ≡ command.Decide) × Goes book answer.text
-  built_goes which book (Some what) answer taken answers is = absurd (not_refused (sym (ap (λ (a : Answer). a.status) answers) ∙ is))
-  built_goes command.Decide book None answer taken answers is = (refl, words_go book (book_words book) answer (no_slide_taken book taken) answers is)
-  built_goes command.Page book None answer taken answers is = absurd (page_stays book (book_words book) (sym (ap (λ (a : Answer). a.status) answers) ∙ is))
+  surface_goes : (which : Command) (book : Book) (found : Result Slid RefusedSlide) (answer : Answer) → surface_of (open_book book) ≡ found → AnswersSurface which book found answer
+      → answer.status ≡ ends → (which ≡ command.Decide) × Goes book answer.text
+  surface_goes which book (Err refused) answer found answers is = absurd (not_refused (sym (ap (λ (a : Answer). a.status) answers) ∙ is))
+  surface_goes command.Decide book (Ok s) answer found answers is = (refl, words_go book s (book_words book s) answer found answers is)
+  surface_goes command.Page book (Ok s) answer found answers is = absurd (page_stays book s (book_words book s) (sym (ap (λ (a : Answer). a.status) answers) ∙ is))
 
   -- and so is one to a document
   doc_goes : (which : Command) (refusal : Option DocRefusal) (book : Option Book) (answer : Answer) → AnswersDoc which refusal book answer → answer.status ≡ ends
       → (b : Book) × (book ≡ Some b) × (which ≡ command.Decide) × Goes b answer.text
   doc_goes which (Some refusal) book answer answers is = absurd (not_refused (sym (ap (λ (a : Answer). a.status) answers) ∙ is))
-  doc_goes which None (Some book) answer answers is = let (decides, goes) = built_goes which book (not_built book) answer refl answers is in (book, refl, decides, goes)
+  doc_goes which None (Some book) answer answers is = let (decides, goes) = surface_goes which book (surface_of (open_book book)) answer refl answers is in (book, refl, decides, goes)
   doc_goes which None None answer answers is = absurd answers
 
   owed_goes : (which : Option Command) (left now_left written now_written : Option (List ℕ)) (answer : Answer) → Owes which left now_left answer

@@ -1,5 +1,5 @@
 -- The strategy's fingers lead from a first drawing to a last one, which is nice.
-use Rattle.std.proofs.Common.{◌≡◌, List, refl, sym, ◌∙◌, ap, subst}
+use Rattle.std.proofs.Common.{◌≡◌, refl, sym, ◌∙◌, ap, subst}
 use Rattle.page_surface.specs.Drawing.{Drawing, IsEmbedded}
 use Rattle.drawing.specs.Fingers.{replayed}
 use Rattle.region_table.proofs.Tests.{nice_from_test}

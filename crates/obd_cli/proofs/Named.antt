@@ -3,9 +3,8 @@ use Rattle.std.proofs.Common.{◌≡◌, ℕ, ◌+◌, ◌<◌, List, [], ◌∷
 use Rattle.std.specs.List.{slice_get}
 use Rattle.std.proofs.lemmas.List.{map-append, take_more}
 use Rattle.std.proofs.lemmas.Option.{get_or_from_slice_get}
-use Rattle.page_surface.specs.Labels.{labels_of}
 use Rattle.obd_cli.specs.Opened.{names_of}
-use Rattle.page_surface.specs.Labels.{Label}
+use Rattle.page_surface.specs.Labels.{Label, labels_of}
 
 -- an item that stands at a place, after those before it
 pub taken_more : {A : Type 0} (xs : List A) (i : ℕ) (now then : List A) (x d : A)

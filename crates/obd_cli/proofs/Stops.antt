@@ -8,6 +8,7 @@ use Rattle.drawing.specs.Fingers.{replayed}
 use Rattle.drawing.specs.Points.{generators}
 use Rattle.region_table.specs.Nice.{weight}
 use Rattle.curve_paths.specs.declared.twist.TooLong.{TooLong}
+use Rattle.handle_slide.specs.declared.slid.Slid.{Slid}
 use Rattle.nice_plan.specs.Strategy.{strategy, within_limit}
 use Rattle.obd_doc.specs.declared.book.Book.{Book}
 use Rattle.obd_doc.specs.declared.limits.Limits.{Limits}
@@ -111,9 +112,9 @@ drawing_passed book d None answer is certifies ends = is
 drawing_passed book d (Some other) answer is same ends = absurd (never_done book.limits d other is (sym (ap (λ (a : Answer). a.status) same) ∙ ends))
 
 -- and so has one to words
-pub words_done : (book : Book) (found : Result (List (List ℕ)) TooLong) (answer : Answer) → AnswersWords book found answer → answer.status ≡ status.Done → Certifies book answer
-words_done book (Err long) answer is ends = absurd (let bad = sym ends ∙ ap (λ (a : Answer). a.status) is in cc)
-words_done book (Ok words) answer (first, answers) ends = drawing_done book (drawing_of book words) (stopped book.limits (drawing_of book words)) answer refl answers ends
+pub words_done : (book : Book) (s : Slid) (found : Result (List (List ℕ)) TooLong) (answer : Answer) → AnswersWords book s found answer → answer.status ≡ status.Done → Certifies book answer
+words_done book s (Err long) answer is ends = absurd (let bad = sym ends ∙ ap (λ (a : Answer). a.status) is in cc)
+words_done book s (Ok words) answer (first, answers) ends = drawing_done book (drawing_of s words) (stopped book.limits (drawing_of s words)) answer refl answers ends
 
 -- an answer to a drawing has the status that goes with it
 pub drawing_answered : (book : Book) (other : Option Answer) (answer : Answer) → AnswersDrawing book other answer → answer.status ≡ drawing_status other
@@ -121,9 +122,9 @@ drawing_answered book (Some other) answer is = ap (λ (a : Answer). a.status) is
 drawing_answered book None answer certifies = certifies.done
 
 -- and so has one to words
-pub words_answered : (book : Book) (found : Result (List (List ℕ)) TooLong) (answer : Answer) → AnswersWords book found answer → answer.status ≡ words_status book found
-words_answered book (Err long) answer is = ap (λ (a : Answer). a.status) is
-words_answered book (Ok words) answer (first, answers) = drawing_answered book (stopped book.limits (drawing_of book words)) answer answers
+pub words_answered : (book : Book) (s : Slid) (found : Result (List (List ℕ)) TooLong) (answer : Answer) → AnswersWords book s found answer → answer.status ≡ words_status book s found
+words_answered book s (Err long) answer is = ap (λ (a : Answer). a.status) is
+words_answered book s (Ok words) answer (first, answers) = drawing_answered book (stopped book.limits (drawing_of s words)) answer answers
 
 -- which is one with a text
 cond_settled : (b : Bool) (x y : Option Answer) → has_text (drawing_status x) ≡ true → has_text (drawing_status y) ≡ true → has_text (drawing_status (cond b x y)) ≡ true
@@ -134,21 +135,21 @@ stopped_settled : (limits : Limits) (d : Drawing) → has_text (drawing_status (
 stopped_settled limits d = cond_settled (nat_lt limits.moves (length (strategy d))) _ _ refl
     (cond_settled (nat_lt limits.generators (length (generators (last_of d)))) _ _ refl refl)
 
-pub status_settled : (book : Book) (found : Result (List (List ℕ)) TooLong) → has_text (words_status book found) ≡ true
-status_settled book (Err long) = refl
-status_settled book (Ok words) = stopped_settled book.limits (drawing_of book words)
+pub status_settled : (book : Book) (s : Slid) (found : Result (List (List ℕ)) TooLong) → has_text (words_status book s found) ≡ true
+status_settled book s (Err long) = refl
+status_settled book s (Ok words) = stopped_settled book.limits (drawing_of s words)
 
-pub words_settled : (book : Book) (found : Result (List (List ℕ)) TooLong) (answer : Answer) → AnswersWords book found answer → has_text answer.status ≡ true
-words_settled book found answer answers = ap has_text (words_answered book found answer answers) ∙ status_settled book found
+pub words_settled : (book : Book) (s : Slid) (found : Result (List (List ℕ)) TooLong) (answer : Answer) → AnswersWords book s found answer → has_text answer.status ≡ true
+words_settled book s found answer answers = ap has_text (words_answered book s found answer answers) ∙ status_settled book s found
 
 -- and isn't Usage
 cond_no_usage : (b : Bool) (x y : Option Answer) → (drawing_status x ≡ status.Usage → ⊥) → (drawing_status y ≡ status.Usage → ⊥) → drawing_status (cond b x y) ≡ status.Usage → ⊥
 cond_no_usage true x y a b is = a is
 cond_no_usage false x y a b is = b is
 
-pub words_no_usage : (book : Book) (found : Result (List (List ℕ)) TooLong) → words_status book found ≡ status.Usage → ⊥
-words_no_usage book (Err long) is = let bad = is in cc
-words_no_usage book (Ok words) is =
-    let d = drawing_of book words in
+pub words_no_usage : (book : Book) (s : Slid) (found : Result (List (List ℕ)) TooLong) → words_status book s found ≡ status.Usage → ⊥
+words_no_usage book s (Err long) is = let bad = is in cc
+words_no_usage book s (Ok words) is =
+    let d = drawing_of s words in
     cond_no_usage (nat_lt book.limits.moves (length (strategy d))) _ _ (λ is. let bad = is in cc)
     (cond_no_usage (nat_lt book.limits.generators (length (generators (last_of d)))) _ _ (λ is. let bad = is in cc) (λ is. let bad = is in cc)) is

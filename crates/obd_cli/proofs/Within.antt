@@ -1,26 +1,22 @@
 -- A run of `decide` over a book that keeps both limits ends with Done, but for faults and want of memory.
-use Rattle.std.proofs.Common.{◌≡◌, ◌⊎◌, ℕ, ◌≤◌, List, length, false, Some, None, inl, inr, refl, ◌∙◌, ap, subst}
+use Rattle.std.proofs.Common.{◌≡◌, ◌⊎◌, ℕ, ◌≤◌, List, length, false, Some, Ok, inl, inr, ◌∙◌, ap, subst}
 use Rattle.std.specs.Prelude.{nat_lt}
 use Rattle.std.proofs.lemmas.Bool.{le-ltb}
 use Rattle.obd_doc.specs.Document.{book_read}
 use Rattle.obd_doc.specs.declared.book.Book.{Book}
 use Rattle.obd_cli.proofs.Stops.{nothing_stops}
-use Rattle.obd_cli.specs.Run.{HasBookStatus, HasReadStatus, HasStatus, IsFault, IsWithin, book_within, drawing_of, drawing_status, most_bytes, not_built, words_status}
+use Rattle.obd_cli.specs.Run.{HasBookStatus, HasReadStatus, HasStatus, IsFault, IsWithin, book_within, drawing_of, drawing_status, most_bytes, words_status}
 use Rattle.obd_cli.specs.Words.{book_words}
 use Rattle.obd_cli.specs.declared.status.Command.TheVariants as command
 use Rattle.obd_cli.specs.declared.status.Status.{Status}
 use Rattle.obd_cli.specs.declared.status.Status.TheVariants as status
 
 module _ (book : Book) (within : IsWithin book) where
-  -- everything of it is taken
-  taken : not_built book ≡ None
-  taken = let one = within.one in let none = within.no_slides in rw (one, none) refl
-
   -- and nothing stops its drawing
-  ends_done : words_status book (book_words book) ≡ status.Done
+  ends_done : words_status book within.surface (book_words book within.surface) ≡ status.Done
   ends_done =
-      ap (words_status book) within.words_are
-      ∙ ap drawing_status (nothing_stops book.limits (drawing_of book within.words) within.moves within.generators_few)
+      ap (words_status book within.surface) within.words_are
+      ∙ ap drawing_status (nothing_stops book.limits (drawing_of within.surface within.words) within.moves within.generators_few)
 
   module _ (bytes : List ℕ) (few : length bytes ≤ most_bytes) (read : book_read bytes ≡ Some book) (result : Status) where
     is_read : book_within bytes ≡ Some book
@@ -29,7 +25,7 @@ module _ (book : Book) (within : IsWithin book) where
     done_is_owed : HasStatus command.Decide bytes result → result ≡ status.Done
     done_is_owed has =
         let of_book : HasReadStatus command.Decide (Some book) result = subst (λ b. HasReadStatus command.Decide b result) is_read has in
-        let built : HasBookStatus command.Decide book None result = subst (λ what. HasBookStatus command.Decide book what result) taken of_book in
+        let built : HasBookStatus command.Decide book (Ok within.surface) result = subst (λ found. HasBookStatus command.Decide book found result) within.surface_is of_book in
         built.0 ∙ ends_done
 
     -- so where no device fails the run ends with Done or wants memory

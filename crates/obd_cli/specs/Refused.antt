@@ -1,7 +1,10 @@
 -- The lines of refusals: `refused`, a code, a name and the values that the rule keeps. And the lines of limits.
-use Rattle.std.specs.Prelude.{ℕ, List, [], ◌∷◌, ◌++◌, codes, decimal, map}
+use Rattle.std.specs.Prelude.{ℕ, List, [], ◌∷◌, ◌++◌, codes, decimal, map, slice_index_or}
 use Rattle.curve_paths.specs.declared.refusal.CurveRefusal.{CurveRefusal}
 use Rattle.curve_paths.specs.declared.refusal.CurveRefusal.TheVariants as curve
+use Rattle.handle_slide.specs.declared.refusal.RefusedSlide.{RefusedSlide}
+use Rattle.handle_slide.specs.declared.refusal.SlideRefusal.{SlideRefusal}
+use Rattle.handle_slide.specs.declared.refusal.SlideRefusal.TheVariants as slide
 use Rattle.witness_check.specs.Line.{line}
 use Rattle.obd_doc.specs.declared.refusal.DocRefusal.{DocRefusal}
 use Rattle.obd_doc.specs.declared.refusal.DocRefusal.TheVariants as doc
@@ -58,6 +61,16 @@ doc_line (doc.RepeatedCurve name) = refused_line 21 (codes "RepeatedCurve") (nam
 doc_line (doc.Curve name refusal) = curve_line name refusal
 doc_line (doc.UnknownCurve twist) = refused_line 31 (codes "UnknownCurve") [] (twist ∷ [])
 doc_line doc.NoMemory = []
+
+-- the line of a slide that is refused, with the slide's number and side; that of a curve has the curve's name
+abbrev pub reason_line : List (List ℕ) → ℕ → ℕ → SlideRefusal → List ℕ
+reason_line names number side slide.NoSuchSide = refused_line 41 (codes "NoSuchSide") [] (number ∷ side ∷ [])
+reason_line names number side slide.SelfSlide = refused_line 42 (codes "SelfSlide") [] (number ∷ side ∷ [])
+reason_line names number side (slide.SlideCrossings curve count) = refused_line 43 (codes "SlideCrossings") (decimal number ∷ slice_index_or names curve [] ∷ []) (count ∷ [])
+reason_line names number side slide.NoMemory = []
+
+abbrev pub slide_line : List (List ℕ) → RefusedSlide → List ℕ
+slide_line names refused = reason_line names refused.slide refused.side refused.reason
 
 -- the line that there are more generators than a limit, with the limit and one
 abbrev pub limit_line : ℕ → List ℕ

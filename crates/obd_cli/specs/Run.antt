@@ -11,14 +11,16 @@ use Rattle.drawing.specs.Tight.{tight_drawing}
 use Rattle.region_table.specs.Nice.{weight}
 use Rattle.nice_plan.specs.Strategy.{strategy, within_limit}
 use Rattle.witness_check.specs.Belonging.{IsFirstDrawing}
-use Rattle.witness_check.specs.OpenBook.{joined_surface}
+use Rattle.handle_slide.specs.declared.refusal.RefusedSlide.{RefusedSlide}
+use Rattle.handle_slide.specs.declared.slid.Slid.{Slid}
+use Rattle.witness_check.specs.OpenBook.{IsSurface, surface_of}
 use Rattle.obd_cli.specs.Opened.{open_book}
-use Rattle.obd_doc.specs.Document.{book_read, refusal_of}
+use Rattle.obd_doc.specs.Document.{book_read, curve_names, refusal_of}
 use Rattle.obd_doc.specs.declared.book.Book.{Book}
 use Rattle.obd_doc.specs.declared.limits.Limits.{Limits}
 use Rattle.obd_doc.specs.declared.refusal.DocRefusal.{DocRefusal}
 use Rattle.obd_cli.specs.Steps.{IsCertificateOf, IsOverBudget, IsOverLimit, last_of}
-use Rattle.obd_cli.specs.Refused.{budget_line, doc_line, limit_line, refused_line}
+use Rattle.obd_cli.specs.Refused.{budget_line, doc_line, limit_line, refused_line, slide_line}
 use Rattle.witness_check.specs.Text.{certificate_text}
 use Rattle.obd_cli.specs.Words.{book_words, long_line, words_text}
 use Rattle.witness_check.specs.declared.certificate.Certificate.{Certificate}
@@ -51,12 +53,6 @@ refused_with text = record { status = status.Refused; text = text }
 abbrev pub too_long : Answer
 too_long = refused_with (refused_line 1 (codes "InputLong") [] (most_bytes ∷ []))
 
--- what of a book no command takes yet
-abbrev pub not_built : Book → Option (List ℕ)
-not_built book =
-    if nat_lt 1 (length book.page) then Some (codes "polygons") else
-    if nat_lt 0 (length book.slides) then Some (codes "slides") else None
-
 -- the answer is the text of a certificate that belongs to the book
 pub record Certifies (book : Book) (answer : Answer) : Type 0 where
   pub done : answer.status ≡ status.Done
@@ -83,9 +79,9 @@ stopped limits d =
     if nat_lt limits.moves (length (strategy d)) then Some (over_budget limits.moves (weight (replayed d (within_limit limits.moves d)))) else
     stopped_last limits.generators (last_of d)
 
--- the drawing of words on the book's page joined
-abbrev pub drawing_of : Book → List (List ℕ) → Drawing
-drawing_of book words = tight_drawing (joined_surface (open_book book)).polygon words
+-- the drawing of words on a surface
+abbrev pub drawing_of : Slid → List (List ℕ) → Drawing
+drawing_of s words = tight_drawing s.polygon words
 
 -- the answer of `decide` to a first drawing: what stands in place of a certificate, else a certificate
 abbrev pub AnswersDrawing : Book → Option Answer → Answer → Type 0
@@ -93,24 +89,24 @@ AnswersDrawing book (Some other) answer = answer ≡ other
 AnswersDrawing book None answer = Certifies book answer
 
 -- the answer of `decide`: the line of words that are too long, or the answer to their drawing, the book's first one
-abbrev pub AnswersWords : Book → Result (List (List ℕ)) TooLong → Answer → Type 0
-AnswersWords book (Err long) answer = answer ≡ refused_with (long_line long)
-AnswersWords book (Ok words) answer =
-    IsFirstDrawing (open_book book) (joined_surface (open_book book)) (drawing_of book words) × AnswersDrawing book (stopped book.limits (drawing_of book words)) answer
+abbrev pub AnswersWords : Book → Slid → Result (List (List ℕ)) TooLong → Answer → Type 0
+AnswersWords book s (Err long) answer = answer ≡ refused_with (long_line long)
+AnswersWords book s (Ok words) answer =
+    IsFirstDrawing (open_book book) s (drawing_of s words) × AnswersDrawing book (stopped book.limits (drawing_of s words)) answer
 
 -- the answer of `page`: the words, or the line of those that are too long
-abbrev pub page_answer : Book → Result (List (List ℕ)) TooLong → Answer
-page_answer book (Ok words) = record { status = status.Done; text = words_text book words }
-page_answer book (Err long) = refused_with (long_line long)
+abbrev pub page_answer : Book → Slid → Result (List (List ℕ)) TooLong → Answer
+page_answer book s (Ok words) = record { status = status.Done; text = words_text book s words }
+page_answer book s (Err long) = refused_with (long_line long)
 
--- the answer to a book
-abbrev pub AnswersBuilt : Command → Book → Option (List ℕ) → Answer → Type 0
-AnswersBuilt command book (Some what) answer = answer ≡ refused_with (refused_line 90 (codes "NotBuilt") (what ∷ []) [])
-AnswersBuilt command.Decide book None answer = AnswersWords book (book_words book) answer
-AnswersBuilt command.Page book None answer = answer ≡ page_answer book (book_words book)
+-- the answer to a book, by the surface that its slides leave; else the line of the first slide that is refused
+abbrev pub AnswersSurface : Command → Book → Result Slid RefusedSlide → Answer → Type 0
+AnswersSurface command book (Err refused) answer = answer ≡ refused_with (slide_line (curve_names book) refused)
+AnswersSurface command.Decide book (Ok s) answer = AnswersWords book s (book_words book s) answer
+AnswersSurface command.Page book (Ok s) answer = answer ≡ page_answer book s (book_words book s)
 
 abbrev pub AnswersBook : Command → Book → Answer → Type 0
-AnswersBook command book answer = AnswersBuilt command book (not_built book) answer
+AnswersBook command book answer = AnswersSurface command book (surface_of (open_book book)) answer
 
 -- the answer to a document, by the first rule that fails and by the book
 abbrev pub AnswersDoc : Command → Option DocRefusal → Option Book → Answer → Type 0
@@ -173,9 +169,11 @@ pub record Paged (left now_left written now_written : Option (List ℕ)) : Type 
   pub ended : IsAtEnd now_left
   pub book : Book
   pub read : book_read bytes ≡ Some book
+  pub surface : Slid
+  pub surface_is : IsSurface (open_book book) surface
   pub words : List (List ℕ)
-  pub words_are : book_words book ≡ Ok words
-  pub wrote : Appends written now_written (words_text book words)
+  pub words_are : book_words book surface ≡ Ok words
+  pub wrote : Appends written now_written (words_text book surface words)
 
 -- what Done says for a command
 abbrev pub Finished : Option Command → Option (List ℕ) → Option (List ℕ) → Option (List ℕ) → Option (List ℕ) → Type 0
@@ -226,38 +224,38 @@ drawing_status (Some other) = other.status
 drawing_status None = status.Done
 
 -- the status of the answer of `decide`
-abbrev pub words_status : Book → Result (List (List ℕ)) TooLong → Status
-words_status book (Err long) = status.Refused
-words_status book (Ok words) = drawing_status (stopped book.limits (drawing_of book words))
+abbrev pub words_status : Book → Slid → Result (List (List ℕ)) TooLong → Status
+words_status book s (Err long) = status.Refused
+words_status book s (Ok words) = drawing_status (stopped book.limits (drawing_of s words))
 
 -- the status of the answer to a book; with Done it keeps both limits, and with a limit's status it goes beyond that one
-abbrev pub HasBookStatus : Command → Book → Option (List ℕ) → Status → Type 0
-HasBookStatus command book (Some what) result = result ≡ status.Refused
-HasBookStatus command.Decide book None result =
-    (result ≡ words_status book (book_words book))
+abbrev pub HasBookStatus : Command → Book → Result Slid RefusedSlide → Status → Type 0
+HasBookStatus command book (Err refused) result = result ≡ status.Refused
+HasBookStatus command.Decide book (Ok s) result =
+    (result ≡ words_status book s (book_words book s))
     × (result ≡ status.Done → IsOverLimit book → ⊥)
     × (result ≡ status.Done → (left : ℕ) → IsOverBudget book left → ⊥)
     × (result ≡ status.GeneratorLimit → IsOverLimit book)
     × (result ≡ status.MoveBudget → (left : ℕ) × IsOverBudget book left)
-HasBookStatus command.Page book None result = result ≡ (page_answer book (book_words book)).status
+HasBookStatus command.Page book (Ok s) result = result ≡ (page_answer book s (book_words book s)).status
 
 -- the book of bytes that aren't too many
 abbrev pub book_within : List ℕ → Option Book
 book_within bytes = if nat_lt most_bytes (length bytes) then None else book_read bytes
 
--- the book has one polygon and no slide, its words aren't too long, and its drawings keep both limits
+-- the book's slides are accepted, its words aren't too long, and its drawings keep both limits
 pub record IsWithin (book : Book) : Type 0 where
-  pub one : length book.page ≡ 1
-  pub no_slides : book.slides ≡ []
+  pub surface : Slid
+  pub surface_is : IsSurface (open_book book) surface
   pub words : List (List ℕ)
-  pub words_are : book_words book ≡ Ok words
-  pub moves : length (strategy (drawing_of book words)) ≤ book.limits.moves
-  pub generators_few : length (generators (last_of (drawing_of book words))) ≤ book.limits.generators
+  pub words_are : book_words book surface ≡ Ok words
+  pub moves : length (strategy (drawing_of surface words)) ≤ book.limits.moves
+  pub generators_few : length (generators (last_of (drawing_of surface words))) ≤ book.limits.generators
 
 -- the status of the answer to what was read
 abbrev pub HasReadStatus : Command → Option Book → Status → Type 0
 HasReadStatus command None result = result ≡ status.Refused
-HasReadStatus command (Some book) result = HasBookStatus command book (not_built book) result
+HasReadStatus command (Some book) result = HasBookStatus command book (surface_of (open_book book)) result
 
 -- the status of the answer to these bytes
 abbrev pub HasStatus : Command → List ℕ → Status → Type 0

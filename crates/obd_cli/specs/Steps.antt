@@ -1,19 +1,17 @@
 -- What each step of a run makes of a book.
-use Rattle.std.specs.Prelude.{◌≡◌, ℕ, ◌<◌, ◌≤◌, List, [], map, length, All, IfSome}
+use Rattle.std.specs.Prelude.{◌≡◌, ℕ, ◌<◌, ◌≤◌, length, All, IfSome}
 use Rattle.page_surface.specs.Drawing.{Drawing}
 use Rattle.page_surface.specs.Joining.{joined}
-use Rattle.page_surface.specs.Polygon.{IsPolygon}
-use Rattle.arc_basis.specs.Basis.{joined_polygon}
 use Rattle.curve_paths.specs.Curves.{IsCurve}
-use Rattle.curve_paths.specs.Twists.{exits_of}
 use Rattle.drawing.specs.Fingers.{replayed}
 use Rattle.drawing.specs.Points.{contact_generator, generators}
 use Rattle.region_table.specs.Nice.{weight}
 use Rattle.nice_plan.specs.Strategy.{strategy, within_limit}
+use Rattle.handle_slide.specs.declared.slid.Slid.{Slid}
 use Rattle.hkm_diagram.specs.Domains.{columns}
 use Rattle.mod2_rank.specs.Linear.{IsOutcomeOf}
 use Rattle.witness_check.specs.Belonging.{BelongsTo, IsFirstDrawing, LeadTo}
-use Rattle.witness_check.specs.OpenBook.{IsSurface, Surface as Shown, arcs, joined_surface, seam_names}
+use Rattle.witness_check.specs.OpenBook.{IsSurface, arcs, seam_names}
 use Rattle.witness_check.specs.declared.certificate.Certificate.{Certificate}
 use Rattle.obd_doc.specs.declared.book.Book.{Book}
 use Rattle.obd_cli.specs.Opened.{open_book, paths_of}
@@ -23,17 +21,11 @@ use Rattle.obd_cli.specs.declared.complex.Complex.{Complex}
 use Rattle.obd_cli.specs.declared.moves.Moved.{Moved}
 use Rattle.obd_cli.specs.declared.surface.Surface.{Surface}
 
--- the polygon and the curves of a surface
-abbrev pub shown : Surface → Shown
-shown s = record { polygon = joined_polygon s.basis; curves = map exits_of s.curves }
-
--- the surface of a book: its page joined, and its curves, after all slides; for now there is none
+-- the surface of a book: its page joined, and the polygon and the curves that its slides leave
 pub record IsSurfaceOf (book : Book) (s : Surface) : Type 0 where
   pub basis : s.basis ≡ joined book.page
-  pub surface : IsSurface (open_book book) (shown s)
-  pub joined_so : shown s ≡ joined_surface (open_book book)
-  pub valid : IsPolygon (shown s).polygon
-  pub curves : All (λ curve. IfSome curve (IsCurve (shown s).polygon)) s.curves
+  pub surface : IsSurface (open_book book) s.slid
+  pub curves : All (λ curve. IfSome curve (IsCurve s.slid.polygon)) s.slid.curves
 
 -- the strands of the first drawing, and the strategy's fingers, which are legal and lead from it to a nice one
 pub record IsMoved (first : Drawing) (m : Moved) : Type 0 where
@@ -44,7 +36,7 @@ pub record IsMoved (first : Drawing) (m : Moved) : Type 0 where
 -- the strands of the book's first drawing, and the fingers that lead from it to the last one
 pub record AreDrawings (book : Book) (s : Surface) (m : Moved) : Type 0 where
   pub first : Drawing
-  pub first_is : IsFirstDrawing (open_book book) (shown s) first
+  pub first_is : IsFirstDrawing (open_book book) s.slid first
   pub moved : IsMoved first m
 
 -- the number of generators of a drawing, of which there is one at least and no more than the limit, and the outcome of its columns
@@ -60,7 +52,7 @@ pub record ArePageLines (book : Book) (s : Surface) (lines : PageLines) : Type 0
   pub polygons : lines.polygons ≡ book.page
   pub curves : lines.curves ≡ paths_of book.curves
   pub seams : lines.seams ≡ seam_names book.page
-  pub basis : lines.basis ≡ arcs (joined_polygon s.basis)
+  pub basis : lines.basis ≡ arcs s.slid.polygon
 
 -- the lines of the last drawing are a drawing's
 pub record AreLastLines (d : Drawing) (lines : LastLines) : Type 0 where
@@ -81,7 +73,7 @@ last_of first = replayed first (strategy first)
 
 -- the strategy's fingers are no more than the book's limit, and the last drawing has more generators than the book's limit
 pub record IsOverLimit (book : Book) : Type 0 where
-  pub surface : Shown
+  pub surface : Slid
   pub surface_is : IsSurface (open_book book) surface
   pub first : Drawing
   pub first_is : IsFirstDrawing (open_book book) surface first
@@ -90,7 +82,7 @@ pub record IsOverLimit (book : Book) : Type 0 where
 
 -- the strategy's fingers are more than the book's limit, and this weight is left after the bursts that fit whole; it isn't 0
 pub record IsOverBudget (book : Book) (left : ℕ) : Type 0 where
-  pub surface : Shown
+  pub surface : Slid
   pub surface_is : IsSurface (open_book book) surface
   pub first : Drawing
   pub first_is : IsFirstDrawing (open_book book) surface first

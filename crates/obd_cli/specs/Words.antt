@@ -1,18 +1,17 @@
 -- The words of a book's strands after its twist word, and the text of the command `page`.
 use Rattle.std.specs.Prelude.{ℕ, List, [], ◌∷◌, ◌++◌, codes, decimal, length, map, Result}
-use Rattle.page_surface.specs.Joining.{page_polygon}
 use Rattle.page_surface.specs.Labels.{Label}
-use Rattle.curve_paths.specs.Twists.{words_after}
+use Rattle.curve_paths.specs.Twists.{exits_of, words_after}
 use Rattle.curve_paths.specs.declared.twist.TooLong.{TooLong}
+use Rattle.handle_slide.specs.declared.slid.Slid.{Slid}
 use Rattle.witness_check.specs.Line.{line, row_lines}
-use Rattle.witness_check.specs.OpenBook.{arcs, joined_surface, seam_names}
+use Rattle.witness_check.specs.OpenBook.{arcs, seam_names}
 use Rattle.obd_doc.specs.declared.book.Book.{Book}
-use Rattle.obd_cli.specs.Opened.{open_book}
 use Rattle.obd_cli.specs.Refused.{refused_line}
 
--- the words of the book's strands on its page joined, from those of the identity
-unfoldable pub book_words : Book → Result (List (List ℕ)) TooLong
-book_words book = let s = joined_surface (open_book book) in words_after s.polygon s.curves book.twists
+-- the words of the book's strands on a surface, from those of the identity
+unfoldable pub book_words : Book → Slid → Result (List (List ℕ)) TooLong
+book_words book s = words_after s.polygon (map exits_of s.curves) book.twists
 
 -- the lines of the seams and of the basis, and a line with the word of each strand
 abbrev pub lines_of : List Label → List ℕ → List (List ℕ) → List ℕ
@@ -22,8 +21,8 @@ lines_of seams arcs words =
     ++ row_lines (codes "word") decimal words
 
 -- the text of `page`
-abbrev pub words_text : Book → List (List ℕ) → List ℕ
-words_text book words = lines_of (seam_names book.page) (arcs (page_polygon book.page)) words
+abbrev pub words_text : Book → Slid → List (List ℕ) → List ℕ
+words_text book s words = lines_of (seam_names book.page) (arcs s.polygon) words
 
 -- the line of words that are too long
 abbrev pub long_line : TooLong → List ℕ

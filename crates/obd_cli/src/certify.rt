@@ -13,7 +13,7 @@ use crate::surface::Surface;
 use curve_paths::{NamedPath, NamedTwist, copied_path, page_names};
 use generator_list::Generators;
 use hkm_diagram::Diagram;
-use obd_base::{ArcNo, Exit, GenNo, Items, Name, NoMemory};
+use obd_base::{ArcNo, Exit, GenNo, Items, Name, NoMemory, SideNo};
 use obd_doc::{Book, NamedCurve};
 use region_table::Regions;
 use std::alloc::Global;
@@ -57,6 +57,17 @@ fn named_twists(alloc: Global, book: &Book) -> Result<Items<NamedTwist>, NoMemor
         })?;
     }
     Ok(twists)
+}
+
+// Some sides, as a list of their own.
+fn copied(alloc: Global, sides: &[SideNo]) -> Result<Items<SideNo>, NoMemory>
+    ensures { IfOk result (λ copy. copy ≡ sides.now) }
+{
+    let mut copy = Items::new(alloc);
+    for side in sides {
+        copy.push(*side)?;
+    }
+    Ok(copy)
 }
 
 // The numbers of the contact points, arc by arc.
@@ -128,7 +139,6 @@ fn certificate_of(
     complex: Complex,
 ) -> Result<Certificate, NoMemory>
     requires surface { IsSurfaceOf book.now surface.now }
-    requires slides { book.now.slides ≡ [] }
     requires most_moves { book.now.limits.moves ≤ 20000 }
     requires most_generators { book.now.limits.generators ≤ 20000 }
     requires drawings { AreDrawings book.now surface.now moved }
@@ -139,6 +149,7 @@ fn certificate_of(
     let page = page_lines(alloc, book, surface)?;
     let last = last_lines(alloc, &moved.last)?;
     let twists = named_twists(alloc, book)?;
+    let slides = copied(alloc, book.slides.as_slice())?;
     let Moved {
         strands,
         fingers,
@@ -153,7 +164,7 @@ fn certificate_of(
         version: 1,
         polygons: page.polygons,
         curves: page.curves,
-        slides: Items::new(alloc),
+        slides,
         twists,
         seams: page.seams,
         basis: page.basis,
@@ -170,7 +181,7 @@ fn certificate_of(
     })
 }
 
-/// The certificate of a book without slides, from its first drawing, the fingers and the last drawing, with the table of
+/// The certificate of a book from its first drawing, the fingers and the last drawing, with the table of
 /// regions and the generators of that one. Its cost is that of `complex_of`, and linear in the text that it makes.
 pub(crate) fn certify(
     alloc: Global,
@@ -181,7 +192,6 @@ pub(crate) fn certify(
     generators: &Generators,
 ) -> Result<Certificate, NoMemory>
     requires surface { IsSurfaceOf book.now surface.now }
-    requires slides { book.now.slides ≡ [] }
     requires most_moves { book.now.limits.moves ≤ 20000 }
     requires most_generators { book.now.limits.generators ≤ 20000 }
     requires drawings { AreDrawings book.now surface.now moved }

@@ -1,5 +1,5 @@
 // The answer of the command `decide`.
-ghost use Rattle.std.specs.Prelude.{◌≡◌, ◌≤◌, [], true, length, IfOk};
+ghost use Rattle.std.specs.Prelude.{◌≡◌, ◌≤◌, true, length, IfOk};
 ghost use Rattle.page_surface.specs.Drawing.{all_exits};
 ghost use Rattle.drawing.specs.Points.{generators as generators_of};
 ghost use Rattle.region_table.specs.Table.{IsTableOf};
@@ -8,7 +8,7 @@ ghost use Rattle.witness_check.specs.Text.{certificate_text};
 ghost use Rattle.obd_doc.specs.Document.{IsBook};
 ghost use Rattle.obd_cli.specs.Opened.{open_book};
 ghost use Rattle.obd_cli.specs.Run.{AnswersDrawing, AnswersWords, has_text, over_budget, over_limit, stopped, stopped_last};
-ghost use Rattle.obd_cli.specs.Steps.{AreDrawings, IsSurfaceOf, shown};
+ghost use Rattle.obd_cli.specs.Steps.{AreDrawings, IsSurfaceOf};
 ghost use Rattle.obd_cli.specs.Words.{book_words as words_of_book};
 
 use crate::certify::certify;
@@ -17,7 +17,7 @@ use crate::moves::{Moved, moved_to_nice};
 use crate::page::too_long;
 use crate::refused::put_limit;
 use crate::status::{Answer, Status};
-use crate::surface::{Surface, surface_of};
+use crate::surface::Surface;
 use drawing::Drawing;
 use generator_list::{Generators, ListRefusal, list};
 use monodromy::MonodromyRefusal;
@@ -72,7 +72,6 @@ fn listed(
     generators: &Generators,
 ) -> Result<Answer, NoMemory>
     requires surface { IsSurfaceOf book.now surface.now }
-    requires slides { book.now.slides ≡ [] }
     requires most_moves { book.now.limits.moves ≤ 20000 }
     requires most_generators { book.now.limits.generators ≤ 20000 }
     requires drawings { AreDrawings book.now surface.now moved }
@@ -95,7 +94,6 @@ fn answer_to_last(
     regions: &Regions,
 ) -> Result<Answer, NoMemory>
     requires surface { IsSurfaceOf book.now surface.now }
-    requires slides { book.now.slides ≡ [] }
     requires most_moves { book.now.limits.moves ≤ 20000 }
     requires most_generators { book.now.limits.generators ≤ 20000 }
     requires drawings { AreDrawings book.now surface.now moved }
@@ -118,10 +116,9 @@ fn answer_to_drawing(
     drawing: Drawing,
 ) -> Result<Answer, NoMemory>
     requires surface { IsSurfaceOf book.now surface.now }
-    requires slides { book.now.slides ≡ [] }
     requires most_moves { book.now.limits.moves ≤ 20000 }
     requires most_generators { book.now.limits.generators ≤ 20000 }
-    requires first { IsFirstDrawing (open_book book.now) (shown surface.now) drawing.drawing }
+    requires first { IsFirstDrawing (open_book book.now) surface.now.slid drawing.drawing }
     requires few { length (all_exits drawing.drawing) ≤ 4000 }
     ensures { IfOk result (AnswersDrawing book.now (stopped book.now.limits drawing.drawing)) }
 {
@@ -133,22 +130,20 @@ fn answer_to_drawing(
     }
 }
 
-/// The answer of `decide` to a book with one polygon and no slide: its certificate, where the strategy takes no more
-/// fingers and the last drawing has no more generators than the book's limits; else the line of the first of these that
-/// fails, or before them TooLong as for `page`. The cost is that of `monodromy::drawn`, of `Regions::of`, of
-/// `nice_plan::make_nice`, of `list`, of `columns` and of `eliminate`.
-pub(crate) fn decided(alloc: Global, book: &Book) -> Result<Answer, NoMemory>
+/// The answer of `decide` to a book on its surface: its certificate, where the strategy takes no more fingers and the last
+/// drawing has no more generators than the book's limits; else the line of the first of these that fails, or before them
+/// TooLong as for `page`. The cost is that of `monodromy::drawn`, of `Regions::of`, of `nice_plan::make_nice`, of `list`,
+/// of `columns` and of `eliminate`.
+pub(crate) fn decided(alloc: Global, book: &Book, surface: &Surface) -> Result<Answer, NoMemory>
     requires valid { IsBook book.now }
-    requires one { length book.now.page ≡ 1 }
-    requires slides { book.now.slides ≡ [] }
+    requires surface { IsSurfaceOf book.now surface.now }
     requires most_moves { book.now.limits.moves ≤ 20000 }
     requires most_generators { book.now.limits.generators ≤ 20000 }
-    ensures answered { IfOk result (AnswersWords book.now (words_of_book book.now)) }
+    ensures answered { IfOk result (AnswersWords book.now surface.now.slid (words_of_book book.now surface.now.slid)) }
     ensures settled { IfOk result (λ answer. has_text answer.status ≡ true) }
 {
-    let surface = surface_of(alloc, book)?;
-    match drawn(alloc, book, &surface) {
-        Ok(drawing) => answer_to_drawing(alloc, book, &surface, drawing),
+    match drawn(alloc, book, surface) {
+        Ok(drawing) => answer_to_drawing(alloc, book, surface, drawing),
         Err(MonodromyRefusal::TooLong(long)) => too_long(alloc, long),
         Err(MonodromyRefusal::NoMemory) => Err(NoMemory),
     }

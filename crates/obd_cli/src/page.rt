@@ -1,5 +1,5 @@
 // The answer of the command `page`.
-ghost use Rattle.std.specs.Prelude.{◌≡◌, ◌++◌, [], true, length, Ok, IfOk, OnOk};
+ghost use Rattle.std.specs.Prelude.{◌≡◌, ◌++◌, true, Ok, IfOk, OnOk};
 ghost use Rattle.page_surface.specs.Drawing.{words};
 ghost use Rattle.obd_doc.specs.Document.{IsBook};
 ghost use Rattle.obd_cli.specs.Run.{has_text, page_answer, refused_with};
@@ -9,7 +9,7 @@ ghost use Rattle.obd_cli.specs.Words.{book_words as words_of_book, lines_of, lon
 use crate::drawn::drawn;
 use crate::refused::put_refused;
 use crate::status::{Answer, Status};
-use crate::surface::{Surface, surface_of};
+use crate::surface::Surface;
 use curve_paths::TooLong;
 use drawing::Drawing;
 use monodromy::MonodromyRefusal;
@@ -40,7 +40,7 @@ fn words_text(
     words: &[Items<SideNo>],
 ) -> Result<Text, NoMemory>
     requires { IsSurfaceOf book.now surface.now }
-    ensures { IfOk result (λ text. text ≡ words_text book.now words.now) }
+    ensures { IfOk result (λ text. text ≡ words_text book.now surface.now.slid words.now) }
 {
     let seams = surface.seam_names(alloc, &book.page)?;
     let arcs = surface.arcs(alloc)?;
@@ -57,7 +57,7 @@ fn worded(
     drawing: &Drawing,
 ) -> Result<Answer, NoMemory>
     requires { IsSurfaceOf book.now surface.now }
-    ensures { IfOk result (λ answer. answer ≡ page_answer book.now (Ok (words drawing.now.drawing))) }
+    ensures { IfOk result (λ answer. answer ≡ page_answer book.now surface.now.slid (Ok (words drawing.now.drawing))) }
 {
     let words = drawing.words(alloc)?;
     Ok(Answer {
@@ -78,18 +78,16 @@ pub(crate) fn too_long(alloc: Global, long: TooLong) -> Result<Answer, NoMemory>
     })
 }
 
-/// The answer of `page` to a book with one polygon and no slide: the seams, the basis and the words of the strands,
-/// or TooLong, which says after which entry of the twist word the words have more than 4,000 letters together.
-pub(crate) fn paged(alloc: Global, book: &Book) -> Result<Answer, NoMemory>
+/// The answer of `page` to a book on its surface: the seams, the basis and the words of the strands, or TooLong, which says
+/// after which entry of the twist word the words have more than 4,000 letters together.
+pub(crate) fn paged(alloc: Global, book: &Book, surface: &Surface) -> Result<Answer, NoMemory>
     requires valid { IsBook book.now }
-    requires one { length book.now.page ≡ 1 }
-    requires slides { book.now.slides ≡ [] }
-    ensures answered { IfOk result (λ answer. answer ≡ page_answer book.now (words_of_book book.now)) }
+    requires surface { IsSurfaceOf book.now surface.now }
+    ensures answered { IfOk result (λ answer. answer ≡ page_answer book.now surface.now.slid (words_of_book book.now surface.now.slid)) }
     ensures settled { IfOk result (λ answer. has_text answer.status ≡ true) }
 {
-    let surface = surface_of(alloc, book)?;
-    match drawn(alloc, book, &surface) {
-        Ok(drawing) => worded(alloc, book, &surface, &drawing),
+    match drawn(alloc, book, surface) {
+        Ok(drawing) => worded(alloc, book, surface, &drawing),
         Err(MonodromyRefusal::TooLong(long)) => too_long(alloc, long),
         Err(MonodromyRefusal::NoMemory) => Err(NoMemory),
     }

@@ -1,11 +1,13 @@
 // The lines of refusals.
-ghost use Rattle.std.specs.Prelude.{◌≡◌, ◌++◌, ◌∷◌, decimal, map, OnOk};
+ghost use Rattle.std.specs.Prelude.{◌≡◌, ◌++◌, [], ◌∷◌, codes, decimal, map, slice_index_or, OnOk};
 ghost use Rattle.witness_check.specs.Line.{line, spaced};
-ghost use Rattle.obd_cli.specs.Refused.{curve_line, doc_line, field_word, page_line, refused_line};
+ghost use Rattle.obd_cli.specs.Refused.{curve_line, doc_line, field_word, page_line, refused_line, slide_line};
 
 use curve_paths::CurveRefusal;
+use handle_slide::{RefusedSlide, SlideRefusal};
+use itoa::Buffer;
 use obd_base::{NoMemory, Text};
-use obd_doc::{DocRefusal, FieldName};
+use obd_doc::{DocRefusal, FieldName, NamedCurve};
 use page_surface::PageRefusal;
 
 // Appends words, each behind a space.
@@ -186,5 +188,50 @@ pub(crate) fn put_doc_refusal(text: &mut Text, refusal: &DocRefusal) -> Result<(
             &[u64::from(*twist)],
         ),
         DocRefusal::NoMemory => Ok(()),
+    }
+}
+
+// Appends the line of a slide after which a curve has too many crossings, by the slide's number, the curve's name and how
+// many.
+fn put_slide_crossings(text: &mut Text, slide: u64, curve: &str, count: u32) -> Result<(), NoMemory>
+    ensures { OnOk result (text.new ≡ text.old ++ refused_line 43 (codes "SlideCrossings") (decimal slide ∷ curve.now ∷ []) (count ∷ [])) }
+{
+    let mut digits = Buffer::new();
+    put_refused(
+        text,
+        43,
+        "SlideCrossings",
+        &[digits.format(slide), curve],
+        &[u64::from(count)],
+    )
+}
+
+// The name of a curve by its number, and no letter where there is none.
+fn name_of(curves: &[NamedCurve], number: u64) -> &str
+    ensures { result.now ≡ slice_index_or (map (λ curve. curve.name) curves.now) number [] }
+{
+    match curves.get(number as usize) {
+        Some(curve) => curve.name.as_str(),
+        None => "",
+    }
+}
+
+/// Appends the line of a slide's refusal, with the names of the book's curves. Want of memory has none.
+pub(crate) fn put_slide_refusal(
+    text: &mut Text,
+    curves: &[NamedCurve],
+    refused: &RefusedSlide,
+) -> Result<(), NoMemory>
+    ensures { OnOk result (text.new ≡ text.old ++ slide_line (map (λ curve. curve.name) curves.now) refused.now) }
+{
+    let slide = refused.slide;
+    let side = u64::from(refused.side.number());
+    match refused.reason {
+        SlideRefusal::NoSuchSide => put_refused(text, 41, "NoSuchSide", &[], &[slide, side]),
+        SlideRefusal::SelfSlide => put_refused(text, 42, "SelfSlide", &[], &[slide, side]),
+        SlideRefusal::SlideCrossings { curve, count } => {
+            put_slide_crossings(text, slide, name_of(curves, curve), count)
+        }
+        SlideRefusal::NoMemory => Ok(()),
     }
 }

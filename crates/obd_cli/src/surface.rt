@@ -1,28 +1,31 @@
-// The surface of a book: its page joined to one polygon, and its curves on the polygon.
-ghost use Rattle.std.specs.Prelude.{◌≡◌, ◌<◌, [], All, map, length, IfOk, IfSome};
+// The surface of a book: its page joined to one polygon, and the polygon and its curves after the book's slides.
+ghost use Rattle.std.specs.Prelude.{◌≡◌, ◌≢◌, ◌≤◌, ◌<◌, All, length, map, Err, IfErr, IfOk, IfSome};
 ghost use Rattle.arc_basis.specs.Basis.{joined_polygon};
 ghost use Rattle.curve_paths.specs.Curves.{IsCurve};
 ghost use Rattle.curve_paths.specs.Through.{exits_through};
-ghost use Rattle.curve_paths.specs.Twists.{exits_of};
+ghost use Rattle.handle_slide.specs.Slide.{some_curve};
+ghost use Rattle.handle_slide.specs.declared.refusal.RefusedSlide.{RefusedSlide as Refused};
+ghost use Rattle.handle_slide.specs.declared.refusal.SlideRefusal.TheVariants as why;
 ghost use Rattle.page_surface.specs.Joining.{joined as joined_page};
 ghost use Rattle.page_surface.specs.Labels.{labels_of};
 ghost use Rattle.obd_doc.specs.Document.{IsBook};
-ghost use Rattle.witness_check.specs.OpenBook.{arcs as arcs_of, joined_surface, seam_names as names_of_seams};
+ghost use Rattle.witness_check.specs.OpenBook.{arcs as arcs_of, joined_surface, seam_names as names_of_seams, surface_of};
 ghost use Rattle.obd_cli.specs.Opened.{names_of, open_book};
 ghost use Rattle.obd_cli.specs.Steps.{IsSurfaceOf};
 
 use arc_basis::{Basis, join};
 use curve_paths::Curve;
+use handle_slide::{RefusedSlide, Slid, SlideRefusal, slide_all};
 use obd_base::{ArcNo, Items, LabelNo, Name, NoMemory, SideNo};
 use obd_doc::{Book, NamedCurve};
 use page_surface::{Page, Polygon};
 use std::alloc::Global;
 
-/// A page joined to one polygon, and curves on the polygon, by their numbers in the book: none where a curve crosses
-/// seams alone.
+/// A page joined to one polygon, and the polygon and the curves that slides leave of it, by their numbers in the book:
+/// none where a curve crosses no side.
 pub(crate) struct Surface {
     pub(crate) basis: Basis,
-    pub(crate) curves: Items<Option<Curve>>,
+    pub(crate) slid: Slid,
 }
 
 // By hand, so that a caller's proof holds one call and not the drop of each field.
@@ -30,15 +33,44 @@ impl Drop for Surface {
     fn drop(self) {
         let Surface {
             basis: _basis,
-            curves: _curves,
+            slid: _slid,
         } = self;
+    }
+}
+
+/// Why a book has no surface.
+#[derive(Clone, Copy)]
+pub(crate) enum SurfaceRefusal {
+    /// A slide is refused.
+    Slide(RefusedSlide),
+    /// Memory is wanting.
+    NoMemory,
+}
+
+impl From<NoMemory> for SurfaceRefusal {
+    ghost use Rattle.obd_cli.specs.declared.surface.SurfaceRefusal.TheVariants as refused;
+
+    ghost from_gives = { λ _ refusal. refusal ≡ refused.NoMemory };
+
+    fn from(_: NoMemory) -> Self {
+        SurfaceRefusal::NoMemory
+    }
+}
+
+// The refusal of a slide, which may be want of memory.
+fn not_slid(refused: RefusedSlide) -> SurfaceRefusal
+    ensures { (other : Refused) → result ≡ SurfaceRefusal.Slide other → (refused ≡ other) × (other.reason ≢ why.NoMemory) }
+{
+    match refused.reason {
+        SlideRefusal::NoMemory => SurfaceRefusal::NoMemory,
+        _ => SurfaceRefusal::Slide(refused),
     }
 }
 
 // A curve on the joined polygon, none where it crosses seams alone.
 fn joined_curve(named: &NamedCurve, basis: &Basis) -> Result<Option<Curve>, NoMemory>
     requires { basis.now ≡ joined_page named.now.curve.page }
-    ensures exits { IfOk result (λ curve. exits_of curve ≡ exits_through named.now.curve.page named.now.curve.path) }
+    ensures exits { IfOk result (λ curve. curve ≡ some_curve (exits_through named.now.curve.page named.now.curve.path)) }
     ensures curve { IfOk result (λ curve. IfSome curve (IsCurve (joined_polygon basis.now))) }
 {
     named.curve.through(basis)
@@ -52,7 +84,7 @@ fn joined_curves(
 ) -> Result<Items<Option<Curve>>, NoMemory>
     requires book { IsBook book.now }
     requires basis { basis.now ≡ joined_page book.now.page }
-    ensures exits { IfOk result (λ curves. map exits_of curves ≡ (joined_surface (open_book book.now)).curves) }
+    ensures exits { IfOk result (λ curves. curves ≡ (joined_surface (open_book book.now)).curves) }
     ensures curves { IfOk result (λ curves. All (λ curve. IfSome curve (IsCurve (joined_polygon basis.now))) curves) }
 {
     let mut curves = Items::new(alloc);
@@ -62,17 +94,32 @@ fn joined_curves(
     Ok(curves)
 }
 
-/// The surface of a book with one polygon and no slide. The page is joined once, and each curve is carried over once.
-pub(crate) fn surface_of(alloc: Global, book: &Book) -> Result<Surface, NoMemory>
-    requires valid { IsBook book.now }
-    requires one { length book.now.page ≡ 1 }
-    requires slides { book.now.slides ≡ [] }
-    ensures { IfOk result (IsSurfaceOf book.now) }
+// The joined polygon with the curves of a book on it.
+fn joined_surface(alloc: Global, book: &Book, basis: &Basis) -> Result<Slid, NoMemory>
+    requires book { IsBook book.now }
+    requires basis { basis.now ≡ joined_page book.now.page }
+    ensures value { IfOk result (λ slid. slid ≡ joined_surface (open_book book.now)) }
+    ensures curves { IfOk result (λ slid. All (λ curve. IfSome curve (IsCurve slid.polygon)) slid.curves) }
+{
+    Ok(Slid {
+        polygon: basis.polygon().copy()?,
+        curves: joined_curves(alloc, book, basis)?,
+    })
+}
+
+/// The surface of a book. The page is joined once, each curve is carried over once, and then the slides are carried out one
+/// after another. `Slide` comes exactly where one of these is refused, with the first such slide.
+pub(crate) fn surface_of(alloc: Global, book: &Book) -> Result<Surface, SurfaceRefusal>
+    requires { IsBook book.now }
+    ensures surface { IfOk result (IsSurfaceOf book.now) }
+    ensures refused { IfErr result (λ refusal. (refused : Refused) → refusal ≡ SurfaceRefusal.Slide refused → surface_of (open_book book.now) ≡ Err refused) }
 {
     let basis = join(alloc, &book.page)?;
-    let curves = joined_curves(alloc, book, &basis)?;
-    let _ = basis.polygon().sides();
-    Ok(Surface { basis, curves })
+    let joined = joined_surface(alloc, book, &basis)?;
+    match slide_all(alloc, joined, book.slides.as_slice()) {
+        Ok(slid) => Ok(Surface { basis, slid }),
+        Err(refused) => Err(not_slid(refused)),
+    }
 }
 
 // The names of some labels of the page.
@@ -104,13 +151,15 @@ impl Surface {
         requires { self.now.basis ≡ joined_page page.now }
         ensures { IfOk result (λ names. names ≡ names_of_seams page.now) }
     {
+        // That a page has labels says that it is one.
+        let _ = page.label_count();
         label_names(alloc, page, self.basis.seams())
     }
 
-    /// The arc of each side. Linear in the sides.
+    /// The arc of each side after the slides. Linear in the sides.
     pub(crate) fn arcs(&self, alloc: Global) -> Result<Items<ArcNo>, NoMemory>
-        ensures { IfOk result (λ arcs. arcs ≡ arcs_of (joined_polygon self.now.basis)) }
+        ensures { IfOk result (λ arcs. arcs ≡ arcs_of self.now.slid.polygon) }
     {
-        side_arcs(alloc, self.basis.polygon())
+        side_arcs(alloc, &self.slid.polygon)
     }
 }

@@ -1,18 +1,21 @@
 // Words and bytes in, a status and a text out.
-ghost use Rattle.std.specs.Prelude.{◌≡◌, ◌≢◌, ◌⊎◌, ◌+◌, ◌<◌, ◌≤◌, ◌^◌, ◌∷◌, [], List, ℕ, length, codes, true, false, map, string_bytes, None, Some, option_map, IfOk, OnOk, IfErr, MatchResult};
+ghost use Rattle.std.specs.Prelude.{◌≡◌, ◌≢◌, ◌⊎◌, ◌<◌, ◌≤◌, ◌^◌, List, ℕ, length, true, map, string_bytes, None, Some, Ok, IfOk, OnOk, IfErr, MatchResult};
 ghost use Rattle.std.specs.Io.KnownBytes.{Appends};
 ghost use Rattle.obd_base.specs.Causes.{Rose};
 ghost use Rattle.obd_base.specs.Streams.{TookPrefix};
-ghost use Rattle.obd_doc.specs.Document.{IsBook, book_read};
+ghost use Rattle.obd_doc.specs.Document.{IsBook, book_read, curve_names};
 ghost use Rattle.obd_doc.specs.declared.book.Book.{Book as Read};
-ghost use Rattle.obd_cli.specs.Refused.{doc_line, refused_line};
-ghost use Rattle.obd_cli.specs.Run.{AnswersAll, AnswersBook, AnswersBytes, AnswersBuilt, AnswersLong, CutShort, Finished, GoesOverBudget, GoesOverLimit, HasStatus, IsFault, IsWithin, Limited, Owes, Told, command_of, has_text, most_bytes, not_built, refused_with, too_long, usage};
+ghost use Rattle.obd_cli.specs.Refused.{doc_line, slide_line};
+ghost use Rattle.obd_cli.specs.Steps.{IsSurfaceOf};
+ghost use Rattle.obd_cli.specs.Run.{AnswersAll, AnswersBook, AnswersBytes, AnswersLong, AnswersSurface, CutShort, Finished, GoesOverBudget, GoesOverLimit, HasStatus, IsFault, IsWithin, Limited, Owes, Told, command_of, has_text, most_bytes, refused_with, too_long, usage};
 ghost use Rattle.obd_cli.specs.declared.status.Command.{Command as Which};
 
 use crate::decide::decided;
 use crate::page::paged;
-use crate::refused::{put_doc_refusal, put_refused};
+use crate::refused::{put_doc_refusal, put_refused, put_slide_refusal};
 use crate::status::{Answer, Command, Status};
+use crate::surface::{Surface, SurfaceRefusal, surface_of};
+use handle_slide::RefusedSlide;
 use obd_base::{NoMemory, ReadRefusal, Sink, Source, Text, WriteFault, read_all, write_all_of};
 use obd_doc::{Book, DocRefusal, read};
 use std::alloc::Global;
@@ -74,43 +77,35 @@ fn refused(alloc: Global, refusal: &DocRefusal) -> Result<Answer, NoMemory>
     })
 }
 
-// The answer to a book of which something isn't taken yet.
-fn not_taken(alloc: Global, what: &str) -> Result<Answer, NoMemory>
-    ensures { IfOk result (λ answer. answer ≡ refused_with (refused_line 90 (codes "NotBuilt") (what.now ∷ []) [])) }
+// The answer to a book of which a slide is refused.
+fn not_slid(alloc: Global, book: &Book, refused: &RefusedSlide) -> Result<Answer, NoMemory>
+    ensures { IfOk result (λ answer. answer ≡ refused_with (slide_line (curve_names book.now) refused.now)) }
 {
     let mut text = Text::new(alloc);
-    put_refused(&mut text, 90, "NotBuilt", &[what], &[])?;
+    put_slide_refusal(&mut text, book.curves.as_slice(), refused)?;
     Ok(Answer {
         status: Status::Refused,
         text,
     })
 }
 
-// What of a book no command takes yet.
-fn not_built(book: &Book) -> Option<&'static str>
-    ensures { option_map (λ what. what.now) result ≡ not_built book.now }
-{
-    if book.page.polygon_count() > 1 {
-        return Some("polygons");
-    }
-    if !book.slides.is_empty() {
-        return Some("slides");
-    }
-    None
-}
-
-// The answer to a book that is taken.
-fn answer_taken(alloc: Global, command: Command, book: &Book) -> Result<Answer, NoMemory>
+// The answer to a book on its surface.
+fn answer_on(
+    alloc: Global,
+    command: Command,
+    book: &Book,
+    surface: &Surface,
+) -> Result<Answer, NoMemory>
     requires valid { IsBook book.now }
-    requires taken { not_built book.now ≡ None }
+    requires surface { IsSurfaceOf book.now surface.now }
     requires most_moves { book.now.limits.moves ≤ 20000 }
     requires most_generators { book.now.limits.generators ≤ 20000 }
-    ensures answered { IfOk result (AnswersBuilt command book.now None) }
+    ensures answered { IfOk result (AnswersSurface command book.now (Ok surface.now.slid)) }
     ensures settled { IfOk result (λ answer. has_text answer.status ≡ true) }
 {
     match command {
-        Command::Decide => decided(alloc, book),
-        Command::Page => paged(alloc, book),
+        Command::Decide => decided(alloc, book, surface),
+        Command::Page => paged(alloc, book, surface),
     }
 }
 
@@ -122,9 +117,10 @@ fn answer_to_book(alloc: Global, command: Command, book: &Book) -> Result<Answer
     ensures answered { IfOk result (AnswersBook command book.now) }
     ensures settled { IfOk result (λ answer. has_text answer.status ≡ true) }
 {
-    match not_built(book) {
-        Some(what) => not_taken(alloc, what),
-        None => answer_taken(alloc, command, book),
+    match surface_of(alloc, book) {
+        Ok(surface) => answer_on(alloc, command, book, &surface),
+        Err(SurfaceRefusal::Slide(refused)) => not_slid(alloc, book, &refused),
+        Err(SurfaceRefusal::NoMemory) => Err(NoMemory),
     }
 }
 
@@ -273,7 +269,7 @@ pub fn run<S: Source, K: Sink>(
     // than the limit, else GeneratorLimit exactly where the last drawing has more generators than the limit, and else Done.
     ensures complete { (bytes : List ℕ) (command : Which) → command_of (map string_bytes words.now) ≡ Some command
         → S.left source.old ≡ Some bytes → HasStatus command bytes result ⊎ IsFault result }
-    // So `decide` certifies each accepted book of one polygon without slides that keeps both limits, unless a device fails or
+    // So `decide` certifies each accepted book whose slides are accepted and that keeps both limits, unless a device fails or
     // memory is wanting.
     ensures certified { (bytes : List ℕ) (book : Read) → command_of (map string_bytes words.now) ≡ Some Which.Decide
         → S.left source.old ≡ Some bytes → length bytes ≤ most_bytes → book_read bytes ≡ Some book → IsWithin book

@@ -15,19 +15,20 @@ use Rattle.drawing.specs.Tight.{tight_drawing}
 use Rattle.drawing.proofs.Generators.{contact_comes_last}
 use Rattle.drawing.proofs.IdentityLaws.{identity_embedded, identity_is_tight, identity_tight}
 use Rattle.region_table.specs.Nice.{IsNice}
+use Rattle.handle_slide.specs.declared.slid.Slid.{Slid}
 use Rattle.hkm_diagram.specs.Domains.{column, columns}
 use Rattle.hkm_diagram.proofs.IdentityColumns.{identity_badness}
 use Rattle.hkm_diagram.proofs.Laws.{contact_column_is_empty}
 use Rattle.mod2_rank.specs.Linear.{column_at}
 use Rattle.witness_check.specs.Belonging.{IsFirstDrawing, LeadTo}
-use Rattle.witness_check.specs.OpenBook.{IsSurface, OpenBook, Surface, joined_surface, words_on}
+use Rattle.witness_check.specs.OpenBook.{IsSurface, OpenBook, joined_surface, words_on}
 
 -- without slides the surface is the joined one
 pub no_slide_surface : (book : OpenBook) → book.slides ≡ [] → IsSurface book (joined_surface book)
 no_slide_surface book none = rw none refl
 
 -- without twists the words are those of the identity
-pub no_twist_words : (book : OpenBook) (s : Surface) → book.twists ≡ [] → words_on s book ≡ Ok (identity_words s.polygon)
+pub no_twist_words : (book : OpenBook) (s : Slid) → book.twists ≡ [] → words_on s book ≡ Ok (identity_words s.polygon)
 no_twist_words book s none = rw none refl
 
 -- the words of one strand after another
@@ -40,7 +41,7 @@ pub words_of_identity : (p : Polygon) → words (identity p) ≡ identity_words 
 words_of_identity p = map_twice (map (λ (e : Exit). e.side)) (λ i. exit (second_side p i) 0 ∷ []) (below (arc_count p))
 
 -- without twists the first drawing is the identity drawing
-pub identity_first : (book : OpenBook) (s : Surface) → IsPolygon s.polygon → book.twists ≡ [] → IsFirstDrawing book s (identity s.polygon)
+pub identity_first : (book : OpenBook) (s : Slid) → IsPolygon s.polygon → book.twists ≡ [] → IsFirstDrawing book s (identity s.polygon)
 identity_first book s ok none = record {
   words = identity_words s.polygon;
   words_are = no_twist_words book s none;

@@ -7,12 +7,13 @@ use Rattle.drawing.specs.Tight.{IsTight, tight_drawing}
 use Rattle.drawing.specs.declared.finger.Finger.{Finger}
 use Rattle.region_table.specs.Nice.{IsNice}
 use Rattle.hkm_diagram.specs.Domains.{columns}
+use Rattle.handle_slide.specs.declared.slid.Slid.{Slid}
 use Rattle.mod2_rank.specs.Linear.{Concludes, column_at}
-use Rattle.witness_check.specs.OpenBook.{IsSurface, OpenBook, Surface, arcs, seam_names, words_on}
+use Rattle.witness_check.specs.OpenBook.{IsSurface, OpenBook, arcs, seam_names, words_on}
 use Rattle.witness_check.specs.declared.certificate.Certificate.{Certificate}
 
 -- the first drawing: the tight drawing of the words after the twist word, which is embedded
-pub record IsFirstDrawing (book : OpenBook) (s : Surface) (d : Drawing) : Type 0 where
+pub record IsFirstDrawing (book : OpenBook) (s : Slid) (d : Drawing) : Type 0 where
   pub words : List (List ℕ)
   pub words_are : words_on s book ≡ Ok words
   pub drawn : d ≡ tight_drawing s.polygon words
@@ -35,7 +36,7 @@ pub record BelongsTo (book : OpenBook) (c : Certificate) : Type 0 where
   pub slides : c.slides ≡ book.slides
   pub twists : c.twists ≡ book.twists
   -- the polygon and the curves after all slides: the seams, and for each side its arc
-  pub surface : Surface
+  pub surface : Slid
   pub surface_is : IsSurface book surface
   pub seams : c.seams ≡ seam_names book.page
   pub basis : c.basis ≡ arcs surface.polygon

@@ -1,19 +1,21 @@
 -- An open book, and the polygon, the curves and the words that it gives.
-use Rattle.std.specs.Prelude.{◌≡◌, ℕ, List, [], ◌∷◌, map, slice_index_or, Option, None, Some, Result}
+use Rattle.std.specs.Prelude.{◌≡◌, ℕ, List, [], ◌∷◌, map, slice_index_or, Ok, Result}
 use Rattle.std.specs.List.{position_or_len}
-use Rattle.std.specs.Option.{option_and_then}
 use Rattle.std.specs.Str.{bytes_eq}
 use Rattle.obd_base.specs.Lists.{below}
-use Rattle.obd_base.specs.declared.points.Exit.{Exit}
 use Rattle.page_surface.specs.Joining.{joined, page_polygon}
 use Rattle.page_surface.specs.Labels.{Label, labels_of}
 use Rattle.page_surface.specs.Polygon.{Polygon, arc, sides}
 use Rattle.curve_paths.specs.Through.{exits_through}
-use Rattle.curve_paths.specs.Twists.{words_after}
+use Rattle.curve_paths.specs.Twists.{exits_of, words_after}
 use Rattle.curve_paths.specs.declared.named.NamedPath.{NamedPath}
 use Rattle.curve_paths.specs.declared.named.NamedTwist.{NamedTwist}
 use Rattle.curve_paths.specs.declared.twist.TooLong.{TooLong}
 use Rattle.curve_paths.specs.declared.twist.Twist.{Twist}
+use Rattle.handle_slide.specs.Slide.{some_curve}
+use Rattle.handle_slide.specs.Slides.{slid}
+use Rattle.handle_slide.specs.declared.refusal.RefusedSlide.{RefusedSlide}
+use Rattle.handle_slide.specs.declared.slid.Slid.{Slid}
 
 -- a page, curves on it by name, slides along sides, one after another, and the twist word, whose first entry is applied first
 pub record OpenBook : Type 0 where
@@ -22,27 +24,17 @@ pub record OpenBook : Type 0 where
   pub slides : List ℕ
   pub twists : List NamedTwist
 
--- a polygon, and some curves on it by their exits
-pub record Surface : Type 0 where
-  pub polygon : Polygon
-  pub curves : List (List Exit)
+-- the page joined, and the book's curves on it, none where a curve crosses seams alone
+abbrev pub joined_surface : OpenBook → Slid
+joined_surface book = record { polygon = page_polygon book.page; curves = map (λ curve. some_curve (exits_through book.page curve.path)) book.curves }
 
--- the page joined, and the book's curves on it
-abbrev pub joined_surface : OpenBook → Surface
-joined_surface book = record { polygon = page_polygon book.page; curves = map (λ curve. exits_through book.page curve.path) book.curves }
-
--- what a slide along a side leaves, where it is accepted; as long as slides aren't built, none is accepted
-abbrev pub slid_along : Surface → ℕ → Option Surface
-slid_along s side = None
-
--- what some slides leave, one after another
-abbrev pub slid : Surface → List ℕ → Option Surface
-slid s [] = Some s
-slid s (side ∷ rest) = option_and_then (λ t. slid t rest) (slid_along s side)
+-- the polygon and the curves after the book's slides, or the first slide that is refused
+abbrev pub surface_of : OpenBook → Result Slid RefusedSlide
+surface_of book = slid 0 (joined_surface book) book.slides
 
 -- the book's slides are accepted, and leave this surface
-abbrev pub IsSurface : OpenBook → Surface → Type 0
-IsSurface book s = slid (joined_surface book) book.slides ≡ Some s
+abbrev pub IsSurface : OpenBook → Slid → Type 0
+IsSurface book s = surface_of book ≡ Ok s
 
 -- the names of the labels that become seams
 abbrev pub seam_names : List (List Label) → List Label
@@ -61,5 +53,5 @@ abbrev pub entries : OpenBook → List Twist
 entries book = map (λ twist. record { curve = position_or_len (bytes_eq twist.name) (curve_names book); power = twist.power }) book.twists
 
 -- the words of the strands after the twist word
-abbrev pub words_on : Surface → OpenBook → Result (List (List ℕ)) TooLong
-words_on s book = words_after s.polygon s.curves (entries book)
+abbrev pub words_on : Slid → OpenBook → Result (List (List ℕ)) TooLong
+words_on s book = words_after s.polygon (map exits_of s.curves) (entries book)

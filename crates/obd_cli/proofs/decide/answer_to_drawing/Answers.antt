@@ -1,8 +1,6 @@
-use Rattle.std.proofs.Common.{◌≡◌, ◌∙◌, Some, ap, subst, sym}
+use Rattle.std.proofs.Common.{◌∙◌, Some, ap, subst, sym}
 use Rattle.std.specs.Prelude.{IfOk}
-use Rattle.page_surface.specs.Drawing.{Drawing}
 use Rattle.obd_cli.specs.Run.{AnswersDrawing, over_budget, stopped, stopped_last}
-use Rattle.obd_cli.specs.Steps.{last_of}
 use Rattle.obd_cli.proofs.Built.{stopped_answer}
 use Rattle.obd_cli.proofs.Moved.{last_is}
 use Rattle.obd_cli.proofs.Stops.{stopped_later, stopped_long}

@@ -1,4 +1,4 @@
-use Rattle.std.proofs.Common.{◌≡◌, ◌<◌, ◌∙◌, Some, ap, length, subst, sym}
+use Rattle.std.proofs.Common.{◌<◌, ◌∙◌, Some, ap, length, subst, sym}
 use Rattle.page_surface.specs.Drawing.{Drawing}
 use Rattle.drawing.specs.Points.{generators}
 use Rattle.obd_cli.specs.Run.{over_limit, stopped_last}

@@ -1,4 +1,4 @@
-use Rattle.std.proofs.Common.{◌≡◌, ◌≤◌, ◌<◌, ◌∙◌, ap, length, refl, subst, sym}
+use Rattle.std.proofs.Common.{◌≤◌, ◌<◌, ◌∙◌, ap, length, refl, subst, sym}
 use Rattle.page_surface.specs.Drawing.{Drawing}
 use Rattle.drawing.specs.Fingers.{replayed}
 use Rattle.region_table.specs.Nice.{weight}
