@@ -12,9 +12,9 @@ use std::alloc::{AllocError, Global};
 use std::{fs, io};
 
 /// The folders of cases.
-const FOLDERS: [&str; 10] = [
-    "decide", "document", "examples", "fields", "identity", "page", "rules", "usage", "words",
-    "worked",
+const FOLDERS: [&str; 11] = [
+    "decide", "document", "examples", "fields", "identity", "page", "rules", "surface", "usage",
+    "words", "worked",
 ];
 
 /// The greatest number of bytes that a run may write.

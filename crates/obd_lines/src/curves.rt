@@ -19,7 +19,7 @@ use page_surface::{Page, Polygon};
 use path_words::{ActRefusal, act};
 use std::alloc::Global;
 
-/// A curve on a page, `PAGE : PATH`: its exits on the joined polygon, where the page has one polygon; or its refusal.
+/// A curve on a page, `PAGE : PATH`: its exits on the joined polygon; or its refusal.
 pub(crate) fn curve_told(alloc: Global, given: &str) -> Result<String, Stop> {
     let Some((page, path)) = given.split_once(" :") else {
         return Err(Stop::NotRead);
@@ -49,20 +49,17 @@ fn exits_told(alloc: Global, page: &Page, curve: &PageCurve) -> Result<String, S
     requires { curve.now.page ≡ page.now }
 {
     let mut text = String::from_str(alloc, "curve ")?;
-    if page.polygon_count() == 1 {
-        put_joined(alloc, page, curve, &mut text)?;
-    }
+    put_joined(alloc, page, curve, &mut text)?;
     Ok(text)
 }
 
 fn put_joined(alloc: Global, page: &Page, curve: &PageCurve, text: &mut String) -> Result<(), Stop>
     requires curve { curve.now.page ≡ page.now }
-    requires one { length page.now ≡ 1 }
 {
     let basis = join(alloc, page)?;
     match curve.through(&basis) {
         Ok(Some(joined)) => Ok(put_exits(text, joined.exits())?),
-        Ok(None) => Err(Stop::NotRead),
+        Ok(None) => Ok(text.push_str("across seams alone")?),
         Err(NoMemory) => Err(Stop::NoMemory),
     }
 }
@@ -81,9 +78,6 @@ pub(crate) fn image_told(alloc: Global, given: &str) -> Result<String, Stop> {
 }
 
 fn image_on(alloc: Global, page: &Page, path: &str, rest: &str) -> Result<String, Stop> {
-    if page.polygon_count() != 1 {
-        return Err(Stop::NotRead);
-    }
     match join(alloc, page) {
         Ok(basis) => image_by_path(alloc, page, &basis, path, rest),
         Err(NoMemory) => Err(Stop::NoMemory),
@@ -97,7 +91,6 @@ fn image_by_path(
     path: &str,
     rest: &str,
 ) -> Result<String, Stop>
-    requires one { length page.now ≡ 1 }
     requires basis { basis.now ≡ joined page.now }
 {
     let path = path_of(alloc, path)?;
@@ -116,7 +109,6 @@ fn image_by_curve(
     basis: &Basis,
     rest: &str,
 ) -> Result<String, Stop>
-    requires one { length curve.now.page ≡ 1 }
     requires basis { basis.now ≡ joined curve.now.page }
 {
     match curve.through(basis) {

@@ -19,6 +19,7 @@ mod pages;
 mod paths;
 mod regions;
 mod same_tables;
+mod slides;
 mod stop;
 mod words;
 
@@ -32,15 +33,17 @@ use kept::kept_told;
 use monodromies::monodromy_told;
 use pages::page_told;
 use regions::regions_told;
+use slides::slides_told;
 use std::alloc::Global;
 use std::{fs, io};
 use stop::Stop;
 use words::word_told;
 
 /// The files of rows.
-const FILES: [&str; 14] = [
+const FILES: [&str; 15] = [
     "pages",
     "curves",
+    "slides",
     "words",
     "images",
     "drawings",
@@ -60,6 +63,7 @@ fn answer(alloc: Global, file: &str, given: &str) -> Result<String, Stop> {
     match file {
         "pages" => page_told(alloc, given),
         "curves" => curve_told(alloc, given),
+        "slides" => slides_told(alloc, given),
         "words" => word_told(alloc, given),
         "images" => image_told(alloc, given),
         "drawings" => drawing_told(alloc, given),

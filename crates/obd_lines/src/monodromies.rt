@@ -16,7 +16,7 @@ use obd_base::NoMemory;
 use page_surface::{Page, Polygon};
 use std::alloc::Global;
 
-/// A twist word on a page of one polygon, `PAGE : PATHS : TWISTS`: `,` stands between paths, and `0^-2` is the twist
+/// A twist word on a page, `PAGE : PATHS : TWISTS`: `,` stands between paths, and `0^-2` is the twist
 /// along the curve of path 0 to the power -2. The exits of its drawing; or `TooLong` with the entry and the letters.
 pub(crate) fn monodromy_told(alloc: Global, given: &str) -> Result<String, Stop> {
     let Some((page, rest)) = given.split_once(" : ") else {
@@ -30,9 +30,6 @@ pub(crate) fn monodromy_told(alloc: Global, given: &str) -> Result<String, Stop>
 }
 
 fn monodromy_on(alloc: Global, page: &Page, paths: &str, twists: &str) -> Result<String, Stop> {
-    if page.polygon_count() != 1 {
-        return Err(Stop::NotRead);
-    }
     match join(alloc, page) {
         Ok(basis) => monodromy_along(alloc, page, &basis, paths, twists),
         Err(NoMemory) => Err(Stop::NoMemory),
@@ -46,7 +43,6 @@ fn monodromy_along(
     paths: &str,
     twists: &str,
 ) -> Result<String, Stop>
-    requires one { length page.now ≡ 1 }
     requires basis { basis.now ≡ joined page.now }
 {
     let curves = curves_of(alloc, page, basis, paths)?;
@@ -71,14 +67,13 @@ fn monodromy_by(
     }
 }
 
-// The curves of paths.
-fn curves_of(
+/// The curves of paths, with `,` between them, on the joined polygon.
+pub(crate) fn curves_of(
     alloc: Global,
     page: &Page,
     basis: &Basis,
     paths: &str,
 ) -> Result<Vec<Option<Curve>>, Stop>
-    requires one { length page.now ≡ 1 }
     requires basis { basis.now ≡ joined page.now }
     ensures { IfOk result (λ curves. All (λ curve. IfSome curve (IsCurve (joined_polygon basis.now))) curves.items) }
 {
@@ -90,7 +85,6 @@ fn curves_of(
 }
 
 fn curve_of(alloc: Global, page: &Page, basis: &Basis, path: &str) -> Result<Option<Curve>, Stop>
-    requires one { length page.now ≡ 1 }
     requires basis { basis.now ≡ joined page.now }
     ensures { IfOk result (λ curve. IfSome curve (IsCurve (joined_polygon basis.now))) }
 {
@@ -105,7 +99,6 @@ fn curve_along(
     path: &[Cross],
 ) -> Result<Option<Curve>, Stop>
     requires path { HaveOccurrences path.now }
-    requires one { length page.now ≡ 1 }
     requires basis { basis.now ≡ joined page.now }
     ensures { IfOk result (λ curve. IfSome curve (IsCurve (joined_polygon basis.now))) }
 {

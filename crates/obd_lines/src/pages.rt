@@ -83,16 +83,13 @@ pub(crate) fn page_of(alloc: Global, text: &str) -> Result<Page, Stop> {
     }
 }
 
-/// The polygon of a page of one polygon.
+/// The polygon that a page is joined to.
 pub(crate) fn polygon_of(alloc: Global, text: &str) -> Result<Polygon, Stop> {
     let page = page_of(alloc, text)?;
     polygon_on(alloc, &page)
 }
 
 fn polygon_on(alloc: Global, page: &Page) -> Result<Polygon, Stop> {
-    if page.polygon_count() != 1 {
-        return Err(Stop::NotRead);
-    }
     match join(alloc, page) {
         Ok(basis) => Ok(basis.polygon().copy()?),
         Err(NoMemory) => Err(Stop::NoMemory),
