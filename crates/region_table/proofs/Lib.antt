@@ -1,4 +1,6 @@
 pub mod ChordTables
+mod AskedSpans
+mod AskedTables
 mod CountedTable
 mod CountSteps
 mod DistanceCode

@@ -1,5 +1,5 @@
 -- Tables that differ in their distances or their room.
-use Rattle.std.proofs.Common.{◌≡◌, ℕ, suc, ◌+◌, ◌*◌, ◌<◌, ◌≤◌, ◌^◌, List, Vec, Global, length, get_or, refl, sym, ◌∙◌, ap, subst, arith}
+use Rattle.std.proofs.Common.{◌≡◌, ℕ, suc, ◌+◌, ◌*◌, ◌<◌, ◌≤◌, ◌^◌, Bool, eqb, List, Vec, Global, length, get_or, refl, sym, ◌∙◌, ap, subst, arith}
 use Rattle.std.specs.Prelude.{vec_capacity, vec_len}
 use Rattle.page_surface.specs.Drawing.{Drawing, IsEmbedded}
 use Rattle.page_surface.specs.Polygon.{Polygon}
@@ -7,8 +7,13 @@ use Rattle.drawing.specs.Pieces.{distance, span_count}
 use Rattle.region_table.specs.Ends.{ChordNo, IsKept, shown}
 use Rattle.region_table.specs.Listed.{IsKeptListed}
 use Rattle.region_table.specs.Room.{HasPlaces, HasRoom, KeepsCapacity, TookRoom}
-use Rattle.region_table.specs.Table.{DifferInDistance, IsTableOf, Region, Table, region_in}
+use Rattle.region_table.specs.Table.{DifferInDistance, IsTableOf, Region, Table, name_at, region_in}
 use Rattle.region_table.specs.Told.{HasNames}
+use Rattle.std.proofs.lemmas.Bool.{eq-eqb}
+use Rattle.obd_base.proofs.lists.Counts.{passing_counted}
+use Rattle.region_table.specs.Asked.{told_by}
+use Rattle.region_table.specs.Counted.{size_so_far}
+use Rattle.region_table.proofs.AskedTables.{told_base, told_distance, told_size}
 use Rattle.region_table.proofs.TableLaws.{name_count}
 use Rattle.drawing.proofs.Diagram.{chord_count}
 
@@ -50,9 +55,9 @@ module _ (polygon : Polygon) (starts names mates : List ℕ) (begins : List (Lis
   }
 
   -- and can be kept
-  pub listed_differs : (ends : List ChordNo) (began listed : List ℕ) → IsKeptListed (shown polygon starts names mates begins before inner room) ends began listed
-      → IsKeptListed (shown polygon starts names mates begins after inner now) ends began listed
-  listed_differs ends began listed all =
+  pub listed_differs : (ends : List ChordNo) (counted : Bool) (began listed : List ℕ) → IsKeptListed (shown polygon starts names mates begins before inner room) ends counted began listed
+      → IsKeptListed (shown polygon starts names mates begins after inner now) ends counted began listed
+  listed_differs ends counted began listed all =
       let kept = all.kept in
       record {
         kept = record {
@@ -65,6 +70,7 @@ module _ (polygon : Polygon) (starts names mates : List ℕ) (begins : List (Lis
           known = kept.known;
         };
         as_many_starts = omega (arith, all.as_many_starts, differ.count);
+        as_many_listed = all.as_many_listed;
         in_order = all.in_order;
       }
 
@@ -152,19 +158,49 @@ pub room_same : (room pieces pieces_now : ℕ) (names mates : Vec ℕ Global) (e
 room_same room pieces pieces_now names mates ends rows told told_now starts next spans inner e f has =
     subst (λ n. HasRoom room n names mates ends rows told_now starts next spans inner) (sym e) (subst (λ n. HasRoom room pieces names mates ends rows n starts next spans inner) (sym f) has)
 
--- distances measured by the names of a table
-pub measured_there : (d : Drawing) → IsEmbedded d → (t : Table) → IsTableOf d t → length t.names < 2 ^ 30 → (names mates : List ℕ) (after : List Region) → names ≡ t.names → mates ≡ t.mates
-    → ((e : Drawing) → HasNames e names mates t.regions → (s : ℕ) → s < span_count e → (region_in after (get_or names s 0)).distance ≡ distance e s)
-    → (s : ℕ) → s < span_count d → (region_in after (get_or t.names s 0)).distance ≡ distance d s
-measured_there d ok t told few names mates after e f measured s l =
-    subst (λ (ns : List ℕ). (region_in after (get_or ns s 0)).distance ≡ distance d s) e
-    (measured d (subst (λ (ns : List ℕ). HasNames d ns mates t.regions) (sym e) (subst (λ (ms : List ℕ). HasNames d t.names ms t.regions) (sym f) (has_names d ok t told few))) s l)
+module _ (counted : Bool) (kept : List ℕ) (regions : List Region) (d : Drawing) (ok : IsEmbedded d) (t : Table) (told : IsTableOf d t) (is : t.regions ≡ told_by counted kept regions)
+    (few : length t.names < 2 ^ 30) where
+  -- pieces as they are kept have the names of the drawing
+  pub has_names_by : HasNames d t.names t.mates regions
+  has_names_by =
+      let given = has_names d ok t told few in
+      let many = told_size kept regions counted in
+      record {
+        embedded = ok;
+        mates_are = given.mates_are;
+        few = given.few;
+        named = given.named;
+        naming = given.naming;
+        told = λ s l. omega (arith, given.told s l, ap length is, many);
+        high = omega (arith, given.high, ap length is, many);
+        base = λ s l. sym (told_base kept regions counted (get_or t.names s 0)) ∙ (ap (λ (rs : List Region). (region_in rs (get_or t.names s 0)).base) (sym is) ∙ given.base s l);
+      }
+
+  -- and distances measured by them are told
+  pub measured_by : (names mates : List ℕ) (after : List Region) → names ≡ t.names → mates ≡ t.mates
+      → ((e : Drawing) → HasNames e names mates regions → (s : ℕ) → s < span_count e → (region_in after (get_or names s 0)).distance ≡ distance e s)
+      → (s : ℕ) → s < span_count d → (region_in (told_by counted kept after) (get_or t.names s 0)).distance ≡ distance d s
+  measured_by names mates after e f measured s l =
+      told_distance kept after counted (get_or t.names s 0)
+      ∙ subst (λ (ns : List ℕ). (region_in after (get_or ns s 0)).distance ≡ distance d s) e
+      (measured d (subst (λ (ns : List ℕ). HasNames d ns mates regions) (sym e) (subst (λ (ms : List ℕ). HasNames d t.names ms regions) (sym f) has_names_by)) s l)
+
+module _ (counted : Bool) (kept : List ℕ) (regions : List Region) (t : Table) (ends : List ChordNo) (is_kept : IsKept t ends) (is : t.regions ≡ told_by counted kept regions) where
+  -- each span has the name of a piece that is kept
+  pub names_inside : (s : ℕ) → s < length t.names → get_or t.names s 0 < length regions
+  names_inside s l = omega (arith, is_kept.table.told s (omega (arith, l, is_kept.table.every_span)), ap length is, told_size kept regions counted)
+
+  -- and each of these has a span
+  pub names_met : (p : ℕ) → p < length regions → 0 < size_so_far (name_at t) (length t.names) p
+  names_met p l =
+      let (s, ls, e) = is_kept.table.used p (omega (arith, l, ap length is, told_size kept regions counted)) in
+      passing_counted (λ s. eqb (name_at t s) p) 0 (length t.names) s (omega arith) (omega (arith, ls, is_kept.table.every_span)) (eq-eqb (name_at t s) p e)
 
 -- a kept table in lists that took room
-pub kept_same : (polygon : Polygon) (starts names mates : List ℕ) (begins : List (List ℕ)) (regions : List Region) (inner : List ℕ) (room : ℕ) (ends : List ChordNo) (began listed : List ℕ)
+pub kept_same : (polygon : Polygon) (starts names mates : List ℕ) (begins : List (List ℕ)) (regions : List Region) (inner : List ℕ) (room : ℕ) (ends : List ChordNo) (counted : Bool) (began listed : List ℕ)
     (starts_now names_now mates_now : List ℕ) (begins_now : List (List ℕ)) (regions_now : List Region) (inner_now : List ℕ) (now : ℕ) (ends_now : List ChordNo) (began_now listed_now : List ℕ)
     → starts_now ≡ starts → names_now ≡ names → mates_now ≡ mates → begins_now ≡ begins → regions_now ≡ regions → inner_now ≡ inner → ends_now ≡ ends → began_now ≡ began → listed_now ≡ listed
-    → IsKeptListed (shown polygon starts names mates begins regions inner room) ends began listed
-    → IsKeptListed (shown polygon starts_now names_now mates_now begins_now regions_now inner_now now) ends_now began_now listed_now
-kept_same polygon starts names mates begins regions inner room ends began listed starts_now names_now mates_now begins_now regions_now inner_now now ends_now began_now listed_now a b c d e f g h i all =
-    rw (a, b, c, d, e, f, g, h, i) (listed_differs polygon starts names mates begins regions regions inner room now (differ_not regions) ends began listed all)
+    → IsKeptListed (shown polygon starts names mates begins regions inner room) ends counted began listed
+    → IsKeptListed (shown polygon starts_now names_now mates_now begins_now regions_now inner_now now) ends_now counted began_now listed_now
+kept_same polygon starts names mates begins regions inner room ends counted began listed starts_now names_now mates_now begins_now regions_now inner_now now ends_now began_now listed_now a b c d e f g h i all =
+    rw (a, b, c, d, e, f, g, h, i) (listed_differs polygon starts names mates begins regions regions inner room now (differ_not regions) ends counted began listed all)

@@ -8,7 +8,7 @@ use Rattle.page_surface.specs.Drawing.{Drawing, chords}
 use Rattle.drawing.specs.Pieces.{is_base, same_piece, segments_in, span_count, spans}
 use Rattle.region_table.specs.Counted.{size_so_far}
 use Rattle.region_table.specs.Ends.{ChordNo, IsKept}
-use Rattle.region_table.specs.Listed.{IsKeptListed}
+use Rattle.region_table.specs.Listed.{IsListed}
 use Rattle.region_table.specs.Table.{IsTableOf, Table, name_at, region}
 use Rattle.region_table.proofs.EdgeWalk.{mem_of_place}
 use Rattle.region_table.proofs.FrameTables.{as_many_mates}
@@ -28,49 +28,55 @@ module _ (t : Table) (p : ℕ) (inner : (region t p).base ≡ false) where
   pub size_there : (d : Drawing) (s : ℕ) → IsTableOf d t → s < span_count d → name_at t s ≡ p → (region t p).size ≡ length (segments_in d s)
   size_there d s told l e = ap (λ q. (region t q).size) (sym e) ∙ told.size s l (inner_there d s told l e)
 
--- where the list of spans has a segment of a piece
-module _ (t : Table) (ends : List ChordNo) (starts listed : List ℕ) (all : IsKeptListed t ends starts listed) (p : ℕ) (lp : p < length t.regions) (inner : (region t p).base ≡ false) where
+-- the segments of a piece by the names of spans
+module _ (t : Table) (ends : List ChordNo) (kept : IsKept t ends) (p : ℕ) (lp : p < length t.regions) (inner : (region t p).base ≡ false) where
   -- so many spans have its name
-  size_counted : (region t p).size ≡ size_so_far (name_at t) (length t.names) p
+  pub size_counted : (region t p).size ≡ size_so_far (name_at t) (length t.names) p
   size_counted =
-      let d = all.kept.drawing in
-      let told = all.kept.table in
+      let d = kept.drawing in
+      let told = kept.table in
       let (s, l, e) = told.used p lp in
       size_there t p inner d s told l e
       ∙ (sym (counted_by_name d (name_at t) told.naming s l)
       ∙ (ap (λ q. size_so_far (name_at t) (span_count d) q) e ∙ ap (λ n. size_so_far (name_at t) n p) (sym told.every_span)))
 
-  pub start_listed : p < length starts
-  start_listed = omega (arith, lp, all.as_many_starts)
+  -- those with its name are its segments
+  pub segment_named : (i : ℕ) (d : Drawing) (s : ℕ) → IsTableOf d t → s < span_count d → name_at t s ≡ p
+      → get_or (filter (λ r. eqb (name_at t r) p) (below (length t.names))) i 0 ≡ get_or (segments_in d s) i 0
+  segment_named i d s told l e =
+      ap (λ n. get_or (filter (λ r. eqb (name_at t r) p) (below n)) i 0) told.every_span
+      ∙ ap (λ xs. get_or xs i 0)
+      (filter_alike (λ r. eqb (name_at t r) p) (same_piece (chords d) s) (spans d) (λ r m.
+      ap (eqb (name_at t r)) (sym e) ∙ test_of_names d (name_at t) told.naming s r l (mem_below (span_count d) r m)))
 
-  module _ (i : ℕ) (li : i < (region t p).size) where
-    -- its place is one of the list
-    pub place_listed : get_or starts p 0 + i < length t.names
-    place_listed = omega (
-      arith,
-      all.in_order.starts_are p start_listed,
-      size_counted,
-      li,
-      before_next (name_at t) (length t.names) p,
-      before_small (name_at t) (length t.names) (suc p),
-    )
+  -- which are spans
+  pub named_inside : (i : ℕ) → i < (region t p).size → get_or (filter (λ r. eqb (name_at t r) p) (below (length t.names))) i 0 < length t.names
+  named_inside i li =
+      let d = kept.drawing in
+      let told = kept.table in
+      let (s, l, e) = told.used p lp in
+      omega (arith, segment_named i d s told l e, segment_inside d s i (omega (arith, li, size_there t p inner d s told l e)), told.every_span)
 
-    -- and what stands there is the segment
-    pub segment_listed : (d : Drawing) (s : ℕ) → IsTableOf d t → s < span_count d → name_at t s ≡ p → get_or listed (get_or starts p 0 + i) 0 ≡ get_or (segments_in d s) i 0
-    segment_listed d s told l e =
-        listed_read (name_at t) (length t.names) starts listed all.in_order p i start_listed (omega (arith, li, size_counted))
-        ∙ (ap (λ n. get_or (filter (λ r. eqb (name_at t r) p) (below n)) i 0) told.every_span
-        ∙ ap (λ xs. get_or xs i 0)
-        (filter_alike (λ r. eqb (name_at t r) p) (same_piece (chords d) s) (spans d) (λ r m.
-        ap (eqb (name_at t r)) (sym e) ∙ test_of_names d (name_at t) told.naming s r l (mem_below (span_count d) r m))))
+  -- where the list of spans has a segment of the piece
+  module _ (starts listed : List ℕ) (as_many : length starts ≡ length t.regions) (in_order : IsListed (name_at t) (length t.names) starts listed) where
+    pub start_listed : p < length starts
+    start_listed = omega (arith, lp, as_many)
 
-    -- which is a span
-    pub listed_inside : get_or listed (get_or starts p 0 + i) 0 < length t.names
-    listed_inside =
-        let d = all.kept.drawing in
-        let told = all.kept.table in
-        let (s, l, e) = told.used p lp in
-        omega (arith, segment_listed d s told l e, segment_inside d s i (omega (arith, li, size_there t p inner d s told l e)), told.every_span)
+    module _ (i : ℕ) (li : i < (region t p).size) where
+      -- its place is one of the list
+      pub place_listed : get_or starts p 0 + i < length t.names
+      place_listed = omega (
+        arith,
+        in_order.starts_are p start_listed,
+        size_counted,
+        li,
+        before_next (name_at t) (length t.names) p,
+        before_small (name_at t) (length t.names) (suc p),
+      )
+
+      -- and what stands there is the segment
+      pub listed_named : get_or listed (get_or starts p 0 + i) 0 ≡ get_or (filter (λ r. eqb (name_at t r) p) (below (length t.names))) i 0
+      listed_named = listed_read (name_at t) (length t.names) starts listed in_order p i start_listed (omega (arith, li, size_counted))
 
 -- a number of a table, as it is read
 pub number_seen : (xs ys : List ℕ) (i x : ℕ) → xs ≡ ys → i < length ys → x ≡ get_or xs i x → x ≡ get_or ys i 0

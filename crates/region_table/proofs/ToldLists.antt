@@ -6,9 +6,9 @@ use Rattle.std.proofs.lemmas.List.FromFn.{get_or-map-range_with_len, length-map-
 use Rattle.obd_base.specs.Lists.{below}
 use Rattle.page_surface.specs.Drawing.{Drawing}
 use Rattle.drawing.specs.Pieces.{distance, is_base, span_count}
-use Rattle.region_table.specs.Counted.{AreCounted, first_label, gathered, has_gap}
+use Rattle.region_table.specs.Counted.{AreCounted, first_label, first_so_far, gathered, has_gap, size_so_far}
 use Rattle.region_table.specs.Table.{DifferInDistance, Region, region_in}
-use Rattle.region_table.specs.Told.{AreMeasured, AreSeen, HasNames, IsUnmeasured}
+use Rattle.region_table.specs.Told.{AreMeasured, AreSeen, AreSized, HasNames, IsUnmeasured}
 
 -- the pieces of some lists
 abbrev pub listed_regions : List Bool → List ℕ → List ℕ → List ℕ → List Region
@@ -28,16 +28,36 @@ module _ (bases : List Bool) (firsts sizes distances : List ℕ) where
   pub region_past : (p : ℕ) → length bases ≤ p → region_in (listed_regions bases firsts sizes distances) p ≡ record { base = false; first = 0; size = 0; distance = 0 }
   region_past p h = get_or_past (listed_regions bases firsts sizes distances) p (record { base = false; first = 0; size = 0; distance = 0 }) (omega (arith, h, regions_size))
 
-  -- what was marked and counted is seen
-  pub told_seen : (d : Drawing) (name : ℕ → ℕ) (n : ℕ) → n ≡ span_count d → length sizes ≡ length bases → ((p : ℕ) → p < length bases → get_or bases p false ≡ has_gap d name p)
-      → AreCounted name n sizes firsts → AreSeen d name (listed_regions bases firsts sizes distances)
-  told_seen d name n are many marked counts =
-      let all = subst (λ x. AreCounted name x sizes firsts) are counts in
-      record {
-        base = λ p l. ap (λ (r : Region). r.base) (region_listed p (omega (arith, l, regions_size))) ∙ marked p (omega (arith, l, regions_size));
-        first = λ p l met. ap (λ (r : Region). r.first) (region_listed p (omega (arith, l, regions_size))) ∙ all.first p (omega (arith, l, regions_size, many)) met;
-        size = λ p l. ap (λ (r : Region). r.size) (region_listed p (omega (arith, l, regions_size))) ∙ all.size p (omega (arith, l, regions_size, many));
-      }
+  -- which pieces are base is told by the flags
+  pub flags_told : (p : ℕ) → p < length bases → (region_in (listed_regions bases firsts sizes distances) p).base ≡ get_or bases p false
+  flags_told p l = ap (λ (r : Region). r.base) (region_listed p l)
+
+  -- counts that were written are told, and all else stays
+  pub sized_told : (name : ℕ → ℕ) (n : ℕ) (fs zs : List ℕ) → length zs ≡ length bases → AreCounted name n zs fs
+      → AreSized name n (listed_regions bases firsts sizes distances) (listed_regions bases fs zs distances)
+  sized_told name n fs zs many counts = record {
+    count = now_size ∙ sym regions_size;
+    first = λ p l met. ap (λ (r : Region). r.first) (now p (omega (arith, l, now_size))) ∙ counts.first p (omega (arith, l, now_size, many)) met;
+    size = λ p l. ap (λ (r : Region). r.size) (now p (omega (arith, l, now_size))) ∙ counts.size p (omega (arith, l, now_size, many));
+    base = λ p. (go p).0;
+    distance = λ p. (go p).1;
+  }
+    where
+      now_size : length (listed_regions bases fs zs distances) ≡ length bases
+      now_size = length-map-range_with_len (gathered bases fs zs distances) 0 (length bases)
+
+      now : (p : ℕ) → p < length bases → region_in (listed_regions bases fs zs distances) p ≡ gathered bases fs zs distances p
+      now p l = get_or-map-range_with_len (gathered bases fs zs distances) 0 (length bases) p p (record { base = false; first = 0; size = 0; distance = 0 }) l (zero-add p)
+
+      go : (p : ℕ) → ((region_in (listed_regions bases fs zs distances) p).base ≡ (region_in (listed_regions bases firsts sizes distances) p).base)
+          × ((region_in (listed_regions bases fs zs distances) p).distance ≡ (region_in (listed_regions bases firsts sizes distances) p).distance)
+      go p = elim (cases_lt p (length bases)) [
+        | inl l ↦ (ap (λ (r : Region). r.base) (now p l) ∙ sym (ap (λ (r : Region). r.base) (region_listed p l)), ap (λ (r : Region). r.distance) (now p l) ∙ sym (ap (λ (r : Region). r.distance) (region_listed p l)))
+        | inr h ↦
+            let b : region_in (listed_regions bases fs zs distances) p ≡ record { base = false; first = 0; size = 0; distance = 0 }
+            = get_or_past (listed_regions bases fs zs distances) p (record { base = false; first = 0; size = 0; distance = 0 }) (omega (arith, h, now_size)) in
+            (ap (λ (r : Region). r.base) (b ∙ sym (region_past p h)), ap (λ (r : Region). r.distance) (b ∙ sym (region_past p h)))
+      ]
 
   -- labels that were set are those before the sweeps
   pub set_unmeasured : (d : Drawing) (names mates labels : List ℕ) (bound : ℕ) → bound ≡ length bases → length labels ≡ length bases
@@ -100,12 +120,31 @@ module _ (bases : List Bool) (firsts sizes distances : List ℕ) where
       → (s : ℕ) → s < span_count d → (region_in (listed_regions bases firsts sizes distances) (get_or names s 0)).distance ≡ distance d s
   measured_told d names inside are s l = ap (λ (r : Region). r.distance) (region_listed (get_or names s 0) (inside s l)) ∙ are s l
 
--- what is seen of some lists is seen of equal ones
-pub written_seen : (d : Drawing) (name : ℕ → ℕ) (bases : List Bool) (firsts sizes distances : List ℕ) (flags : List Bool) (fs zs : List ℕ) → flags ≡ bases → fs ≡ firsts → zs ≡ sizes
-    → AreSeen d name (listed_regions bases firsts sizes distances) → AreSeen d name (listed_regions flags fs zs distances)
-written_seen d name bases firsts sizes distances flags fs zs e f g seen =
-    subst (λ x. AreSeen d name (listed_regions x fs zs distances)) (sym e)
-    (subst (λ x. AreSeen d name (listed_regions bases x zs distances)) (sym f) (subst (λ x. AreSeen d name (listed_regions bases firsts x distances)) (sym g) seen))
+-- flags that were written are told
+pub marked_told : (bases : List Bool) (firsts sizes distances : List ℕ) (flags : List Bool) → flags ≡ bases → (wanted : ℕ → Bool) → ((p : ℕ) → p < length bases → get_or bases p false ≡ wanted p)
+    → (p : ℕ) → p < length (listed_regions flags firsts sizes distances) → (region_in (listed_regions flags firsts sizes distances) p).base ≡ wanted p
+marked_told bases firsts sizes distances flags e wanted marked p l =
+    let many = regions_size flags firsts sizes distances in
+    flags_told flags firsts sizes distances p (omega (arith, l, many)) ∙ (ap (λ xs. get_or xs p false) e ∙ marked p (omega (arith, l, many, ap length e)))
+
+-- and counts that were written
+pub sized_written : (bases : List Bool) (firsts sizes distances : List ℕ) (name : ℕ → ℕ) (n : ℕ) (fs zs firsts_now sizes_now : List ℕ) → firsts_now ≡ fs → sizes_now ≡ zs
+    → length zs ≡ length bases → AreCounted name n zs fs → AreSized name n (listed_regions bases firsts sizes distances) (listed_regions bases firsts_now sizes_now distances)
+sized_written bases firsts sizes distances name n fs zs firsts_now sizes_now e f many counts = rw (e, f) (sized_told bases firsts sizes distances name n fs zs many counts)
+
+-- from equal pieces
+pub sized_from : {before kept after : List Region} (name : ℕ → ℕ) (n : ℕ) → before ≡ kept → AreSized name n before after → AreSized name n kept after
+sized_from {after = after} name n same sized = subst (λ rs. AreSized name n rs after) same sized
+
+-- pieces whose flags are right and that are counted are seen
+pub marked_seen : (d : Drawing) (names : List ℕ) (before after : List Region) → length names ≡ span_count d
+    → ((p : ℕ) → p < length before → (region_in before p).base ≡ has_gap d (λ s. get_or names s 0) p) → AreSized (λ s. get_or names s 0) (length names) before after
+    → AreSeen d (λ s. get_or names s 0) after
+marked_seen d names before after many flags sized = record {
+  base = λ p l. sized.base p ∙ flags p (omega (arith, l, sized.count));
+  first = λ p l met. sized.first p l (subst (λ n. 0 < size_so_far (λ s. get_or names s 0) n p) (sym many) met) ∙ ap (λ n. first_so_far (λ s. get_or names s 0) n p) many;
+  size = λ p l. sized.size p l ∙ ap (λ n. size_so_far (λ s. get_or names s 0) n p) many;
+}
 
 -- a piece by its four parts
 abbrev pub region_of : Bool → ℕ → ℕ → ℕ → Region

@@ -29,6 +29,14 @@ pub record AreSeen (d : Drawing) (name : ℕ → ℕ) (regions : List Region) : 
   pub first : (p : ℕ) → p < length regions → 0 < size_so_far name (span_count d) p → (region_in regions p).first ≡ first_so_far name (span_count d) p
   pub size : (p : ℕ) → p < length regions → (region_in regions p).size ≡ size_so_far name (span_count d) p
 
+-- sizes and first spans are counted by names, and all else stays; a name that is no span's has no first span
+pub record AreSized (name : ℕ → ℕ) (n : ℕ) (before after : List Region) : Type 0 where
+  pub count : length after ≡ length before
+  pub first : (p : ℕ) → p < length after → 0 < size_so_far name n p → (region_in after p).first ≡ first_so_far name n p
+  pub size : (p : ℕ) → p < length after → (region_in after p).size ≡ size_so_far name n p
+  pub base : (p : ℕ) → (region_in after p).base ≡ (region_in before p).base
+  pub distance : (p : ℕ) → (region_in after p).distance ≡ (region_in before p).distance
+
 -- the names and chords by which distances are measured, and labels before it: 0 for base pieces, and a bound for others
 pub record IsUnmeasured (d : Drawing) (names mates labels : List ℕ) (bound : ℕ) : Type 0 where
   pub embedded : IsEmbedded d

@@ -1,5 +1,5 @@
 // The table of a drawing's regions.
-ghost use Rattle.std.specs.Prelude.{◌≡◌, ℕ, List, suc, ◌<◌, ◌≤◌, false, length, max, slice_index, IfOk, OnErr, OnOk};
+ghost use Rattle.std.specs.Prelude.{◌≡◌, ℕ, List, suc, ◌<◌, ◌≤◌, ◌^◌, false, length, max, slice_index, IfOk, OnErr, OnOk};
 ghost use Rattle.page_surface.specs.Drawing.{Drawing as Shown, IsEmbedded, exit, spot};
 ghost use Rattle.page_surface.specs.Polygon.{arc_count, first_side, sides};
 ghost use Rattle.drawing.specs.Fingers.{IsLegal, pushed};
@@ -7,11 +7,13 @@ ghost use Rattle.drawing.specs.Pieces.{badness, corners, distance, is_base, segm
 ghost use Rattle.region_table.specs.Changed.{AreChanged, KeepsNames};
 ghost use Rattle.region_table.specs.EdgeKinds.{IsEdge};
 ghost use Rattle.region_table.specs.Edges.{names_beside, to_names};
+ghost use Rattle.region_table.specs.Ends.{ChordNo, IsKept};
 ghost use Rattle.region_table.specs.FingerLists.{IsPush};
 ghost use Rattle.region_table.specs.Nice.{is_nice, weight};
 ghost use Rattle.region_table.specs.Reads.{from_options, told_chords, told_crossings, told_points, told_spot};
-ghost use Rattle.region_table.specs.Table.{DifferInDistance, HasDistances, IsFresh, IsTableOf, badness_of, corners_of, name_at, region, tells_nice, told_weight};
+ghost use Rattle.region_table.specs.Table.{DifferInDistance, HasDistances, IsFresh, IsTableOf, badness_of, corners_of, name_at, region, region_in, tells_nice, told_weight};
 
+use crate::asked::{count_of, span_of};
 use crate::edge::Edge;
 use crate::entries::{Push, write_names};
 use crate::entry::Entry;
@@ -36,6 +38,7 @@ pub struct Regions {
     names: Vec<u32>,
     told: Told,
     inner: Vec<PieceNo>,
+    counted: bool,
     room: u32,
 }
 
@@ -49,6 +52,7 @@ impl Drop for Regions {
             names: _names,
             told: _told,
             inner: _inner,
+            counted: _counted,
             room: _room,
         } = self;
     }
@@ -56,6 +60,7 @@ impl Drop for Regions {
 
 impl Model for Regions {
     ghost use Rattle.std.specs.Prelude.{length};
+    ghost use Rattle.region_table.specs.Asked.{told_by};
     ghost use Rattle.region_table.specs.Ends.{shown};
     ghost use Rattle.region_table.specs.Listed.{IsKeptListed};
     ghost use Rattle.region_table.specs.Room.{HasRoom};
@@ -63,9 +68,9 @@ impl Model for Regions {
 
     ghost Value = { Table };
 
-    ghost view = { λ r. shown r.polygon r.frame.starts.items r.names.items r.frame.mates.items r.frame.begins.lists r.told.regions r.inner.items r.room };
+    ghost view = { λ r. shown r.polygon r.frame.starts.items r.names.items r.frame.mates.items r.frame.begins.lists (told_by r.counted r.names.items r.told.regions) r.inner.items r.room };
 
-    ghost invariant = { λ r. IsKeptListed (shown r.polygon r.frame.starts.items r.names.items r.frame.mates.items r.frame.begins.lists r.told.regions r.inner.items r.room) r.frame.ends.items r.listing.starts.items r.listing.spans.items × HasRoom r.room (length r.told.regions) r.names r.frame.mates r.frame.ends r.frame.begins.room r.told.room r.listing.starts r.listing.next r.listing.spans r.inner };
+    ghost invariant = { λ r. IsKeptListed (shown r.polygon r.frame.starts.items r.names.items r.frame.mates.items r.frame.begins.lists (told_by r.counted r.names.items r.told.regions) r.inner.items r.room) r.frame.ends.items r.counted r.listing.starts.items r.listing.spans.items × HasRoom r.room (length r.told.regions) r.names r.frame.mates r.frame.ends r.frame.begins.room r.told.room r.listing.starts r.listing.next r.listing.spans r.inner };
 }
 
 impl Regions {
@@ -91,6 +96,7 @@ impl Regions {
             names,
             told,
             inner,
+            counted: true,
             room: 0,
         })
     }
@@ -148,8 +154,8 @@ impl Regions {
     /// so `distance` and `weight` wait for `measure`. Each piece that the finger keeps has the name that it had, and every
     /// other piece has a name that no kept piece has. Answers how many pieces changed or are new: four or five.
     ///
-    /// Takes no memory: it uses up the room for a finger (see `reserve`). Linear in the points and sides: names, ends and
-    /// chords are shifted in passes in order, and sizes and lists of the pieces' spans are counted anew.
+    /// Takes no memory: it uses up the room for a finger (see `reserve`). Linear in the points and sides: each list is
+    /// shifted once, in order, and the pieces that aren't base are listed. Sizes and edges aren't counted before `measure`.
     pub fn after_finger(&mut self, drawing: &Drawing, finger: &Finger) -> u32
         requires before { (d : Shown) × IsEmbedded d × IsLegal d finger.now × IsTableOf d self.old × (drawing.now.drawing ≡ pushed d finger.now) }
         requires room { 1 ≤ self.old.room }
@@ -167,12 +173,24 @@ impl Regions {
         write_names(&mut self.names, push, self.told.len() as u32);
         write_frame(&mut self.frame, drawing, finger, push);
         self.told.grow();
-        self.told.count(drawing, &self.frame.starts, &self.names);
+        self.told.mark(drawing, &self.frame.starts, &self.names);
         put_inner(&self.told, &mut self.inner);
         grow_listing(&mut self.listing);
-        list_anew(&self.names, &self.told, &mut self.listing);
+        self.counted = false;
         self.room -= 1;
         if past == behind { 4 } else { 5 }
+    }
+
+    // Counts the pieces, where they aren't counted: their sizes and first spans, and the list of spans by names. Linear in
+    // the spans.
+    fn count(&mut self)
+        ensures { self.new ≡ self.old }
+    {
+        if !self.counted {
+            self.told.count(&self.names);
+            list_anew(&self.names, &self.told, &mut self.listing);
+            self.counted = true;
+        }
     }
 
     /// Makes the distances fresh. All else stays, names among it. Takes no memory. Linear in the points and sides.
@@ -183,6 +201,7 @@ impl Regions {
         ensures kept { self.new ≡ record self.old { regions = self.new.regions } }
         ensures others { DifferInDistance self.old.regions self.new.regions }
     {
+        self.count();
         self.told.measure(&self.names, &self.frame.mates);
     }
 
@@ -214,8 +233,49 @@ impl Regions {
         PieceNo::new(self.names[span as usize])
     }
 
+    // How many pieces there are.
+    fn pieces(&self) -> usize
+        ensures count { result ≡ length self.now.regions }
+        ensures kept { (ends : List ChordNo) × IsKept self.now ends }
+    {
+        self.told.len()
+    }
+
+    // Whether a piece is base.
+    fn is_marked(&self, piece: usize) -> bool
+        requires { piece < length self.now.regions }
+        ensures { result ≡ (region_in self.now.regions piece).base }
+    {
+        let region = self.told.region(piece);
+        region.base
+    }
+
+    // The distance of a piece, fresh or stale.
+    fn label(&self, piece: usize) -> u32
+        requires { piece < length self.now.regions }
+        ensures { result ≡ (region_in self.now.regions piece).distance }
+    {
+        let region = self.told.region(piece);
+        region.distance
+    }
+
+    // How many segments a piece has. Constant time where the pieces are counted, else linear in the spans.
+    fn size(&self, piece: usize) -> u32
+        requires { piece < length self.now.regions }
+        ensures value { result ≡ (region_in self.now.regions piece).size }
+        ensures small { (region_in self.now.regions piece).base ≡ false → result < 2 ^ 30 }
+    {
+        if self.counted {
+            let region = self.told.region(piece);
+            region.size
+        } else {
+            count_of(&self.names, piece as u32)
+        }
+    }
+
     /// The piece of a segment of a side. Constant time, as are the calls below but `is_nice` and `weight`; all take
-    /// no memory.
+    /// no memory. Sizes and edges are counted by `of` and by `measure`: after a finger and before `measure`, `corners`,
+    /// `badness` and `edge` are linear in the points and sides, and `is_nice` and `weight` are so for each piece.
     pub fn piece_at(&self, side: SideNo, segment: u32) -> PieceNo
         requires side { side < sides self.now.polygon }
         requires segment { segment ≤ told_points self.now side }
@@ -231,8 +291,7 @@ impl Regions {
         ensures told { result ≡ (region self.now piece).base }
         ensures value { (d : Shown) (s : ℕ) → IsTableOf d self.now → s < span_count d → name_at self.now s ≡ piece → result ≡ is_base d s }
     {
-        let region = self.told.region(piece.number() as usize);
-        region.base
+        self.is_marked(piece.number() as usize)
     }
 
     /// The name of the piece of each span, by the spans' numbers in the place order.
@@ -263,8 +322,7 @@ impl Regions {
         ensures told { result ≡ corners_of (region self.now piece) }
         ensures value { (d : Shown) (s : ℕ) → IsTableOf d self.now → s < span_count d → name_at self.now s ≡ piece → result ≡ corners d s }
     {
-        let region = self.told.region(piece.number() as usize);
-        2 * region.size
+        2 * self.size(piece.number() as usize)
     }
 
     /// How many segments above two a piece has that isn't base.
@@ -274,8 +332,7 @@ impl Regions {
         ensures told { result ≡ badness_of (region self.now piece) }
         ensures value { (d : Shown) (s : ℕ) → IsTableOf d self.now → s < span_count d → name_at self.now s ≡ piece → result ≡ badness d s }
     {
-        let region = self.told.region(piece.number() as usize);
-        region.size.saturating_sub(2)
+        self.size(piece.number() as usize).saturating_sub(2)
     }
 
     /// The distance of a piece: the least number of chords that separate it from a base piece. The distances must be
@@ -286,8 +343,7 @@ impl Regions {
         ensures told { result ≡ (region self.now piece).distance }
         ensures value { (d : Shown) (s : ℕ) → HasDistances d self.now → s < span_count d → name_at self.now s ≡ piece → result ≡ distance d s }
     {
-        let region = self.told.region(piece.number() as usize);
-        region.distance
+        self.label(piece.number() as usize)
     }
 
     /// The pieces that aren't base, each once.
@@ -353,9 +409,8 @@ impl Regions {
         ensures told { result ≡ tells_nice self.now }
         ensures value { (d : Shown) → IsTableOf d self.now → result ≡ is_nice d }
     {
-        for name in 0..self.told.len() {
-            let region = self.told.region(name);
-            if !region.base && region.size > 2 {
+        for name in 0..self.pieces() {
+            if !self.is_marked(name) && self.size(name) > 2 {
                 return false;
             }
         }
@@ -370,10 +425,9 @@ impl Regions {
         ensures value { (d : Shown) → IsTableOf d self.now → HasDistances d self.now → result ≡ weight d }
     {
         let mut weight: u64 = 0;
-        for name in 0..self.told.len() {
-            let region = self.told.region(name);
-            if !region.base {
-                weight += region.size.saturating_sub(2) as u64 * region.distance as u64;
+        for name in 0..self.pieces() {
+            if !self.is_marked(name) {
+                weight += self.size(name).saturating_sub(2) as u64 * self.label(name) as u64;
             }
         }
         weight
@@ -401,7 +455,11 @@ impl Regions {
         ensures inside { result < length self.now.names }
         ensures value { (d : Shown) (s : ℕ) → IsEmbedded d → IsTableOf d self.now → s < span_count d → name_at self.now s ≡ piece → result ≡ slice_index (segments_in d s) index }
     {
-        self.listing.spans[(self.listing.starts[piece.number() as usize] + index) as usize]
+        if self.counted {
+            self.listing.spans[(self.listing.starts[piece.number() as usize] + index) as usize]
+        } else {
+            span_of(&self.names, piece.number(), index)
+        }
     }
 
     /// An edge of a piece that isn't base: edge `at` counterclockwise from the piece's first segment, which is edge 0.

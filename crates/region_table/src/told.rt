@@ -8,7 +8,7 @@ ghost use Rattle.drawing.specs.Round.{other_end};
 ghost use Rattle.region_table.specs.Counted.{AreTold, has_gap};
 ghost use Rattle.region_table.specs.Naming.{fresh_names};
 ghost use Rattle.region_table.specs.Table.{DifferInDistance, region_in};
-ghost use Rattle.region_table.specs.Told.{AreSeen, HasNames};
+ghost use Rattle.region_table.specs.Told.{AreSized, HasNames};
 
 use crate::measure::{measure, set_labels};
 use crate::names::count_spans;
@@ -155,18 +155,26 @@ impl Told {
         self.room -= 1;
     }
 
-    // Tells all but distances anew. Linear in the spans.
-    pub(crate) fn count(&mut self, drawing: &Drawing, starts: &[u32], names: &[u32])
+    // Tells anew which pieces are base. Linear in the sides, but for clearing the flags.
+    pub(crate) fn mark(&mut self, drawing: &Drawing, starts: &[u32], names: &[u32])
         requires starts { starts.now ≡ offsets_of drawing.now.drawing }
         requires named { length names.now ≡ span_count drawing.now.drawing }
-        requires few { span_count drawing.now.drawing < 2 ^ 30 }
         requires told { (s : ℕ) → s < span_count drawing.now.drawing → slice_index names.now s < length self.old.regions }
         ensures count { length self.new.regions ≡ length self.old.regions }
         ensures room { self.new.room ≡ self.old.room }
-        ensures seen { AreSeen drawing.now.drawing (λ s. slice_index names.now s) self.new.regions }
+        ensures base { (p : ℕ) → p < length self.new.regions → (region_in self.new.regions p).base ≡ has_gap drawing.now.drawing (λ s. slice_index names.now s) p }
     {
         self.bases.fill(false);
         mark_bases(drawing, starts, names, &mut self.bases);
+    }
+
+    // Tells sizes and first spans anew. Linear in the spans.
+    pub(crate) fn count(&mut self, names: &[u32])
+        requires few { length names.now < 2 ^ 30 }
+        requires told { (s : ℕ) → s < length names.now → slice_index names.now s < length self.old.regions }
+        ensures room { self.new.room ≡ self.old.room }
+        ensures counted { AreSized (λ s. slice_index names.now s) (length names.now) self.old.regions self.new.regions }
+    {
         self.sizes.fill(0);
         count_spans(names, &mut self.sizes, &mut self.firsts);
     }
@@ -239,7 +247,8 @@ pub(crate) fn told_of(
 {
     let count = drawing.points() + drawing.polygon().sides() / 2 + 1;
     let mut told = Told::new(alloc, count as usize)?;
-    told.count(drawing, starts, names);
+    told.mark(drawing, starts, names);
+    told.count(names);
     told.measure(names, mates);
     Ok(told)
 }

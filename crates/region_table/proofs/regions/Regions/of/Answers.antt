@@ -1,5 +1,6 @@
-use Rattle.std.proofs.Common.{◌≡◌, refl, ◌∙◌, ap, subst, arith}
+use Rattle.std.proofs.Common.{◌≡◌, ℕ, List, length, refl, ◌∙◌, ap, subst, arith}
 use Rattle.page_surface.specs.Polygon.{sides}
+use Rattle.region_table.specs.Asked.{told_by}
 use Rattle.region_table.specs.Counted.{AreTold}
 use Rattle.region_table.proofs.ListedSteps.{listed_same}
 use Rattle.region_table.proofs.MadeTable.{few_told, inner_short, made_is_kept, made_is_table, names_few, names_seen, sizes_seen}
@@ -41,6 +42,7 @@ listing_of-requires-clause-sizes c =
     sizes_seen d c.points.ensures.valid _ c.deref-5.result.now _ c.in_ok-told.told.regions c.in_ok-names.ensures told c.deref-5.ensures.value refl
 
 pub invariant_of-result : goal.invariant_of-result
+unfolding told_by
 invariant_of-result c =
     let d = c.args.drawing.now.drawing in
     let n : c.sides.result ≡ sides d.polygon = c.sides.ensures.value ∙ ap sides c.polygon.ensures in
@@ -49,7 +51,8 @@ invariant_of-result c =
         kept = made_is_kept d c.points.ensures.valid _ _ _ _ _ _ _ _ _ (c.in_ok-polygon.ensures ∙ c.polygon-2.ensures) c.in_ok-frame.ensures.frame c.in_ok-names.ensures told c.in_ok-inner.ensures.inner
             (omega (arith, n, c.sides.ensures.most)) (omega (arith, c.points.ensures.value, c.points.ensures.few));
         as_many_starts = c.in_ok-listing.ensures.as_many;
-        in_order = listed_same c.in_ok-names.names.items c.deref-5.result.now c.in_ok-listing.listing.starts.items c.in_ok-listing.listing.starts.items c.in_ok-listing.listing.spans.items c.deref-5.ensures.value refl c.in_ok-listing.ensures.in_order;
+        as_many_listed = omega (arith, c.in_ok-listing.ensures.in_order.as_many, ap (λ (xs : List ℕ). length xs) c.deref-5.ensures.value);
+        in_order = λ e. listed_same c.in_ok-names.names.items c.deref-5.result.now c.in_ok-listing.listing.starts.items c.in_ok-listing.listing.starts.items c.in_ok-listing.listing.spans.items c.deref-5.ensures.value refl c.in_ok-listing.ensures.in_order;
       },
       record {
         names_room = omega (arith, c.in_ok-names.names.ok);
@@ -67,7 +70,14 @@ invariant_of-result c =
     )
 
 pub returns-clause-table : goal.returns-clause-table
+unfolding told_by
 returns-clause-table c =
     let d = c.args.drawing.now.drawing in
     let told = subst (λ ns. AreTold d ns c.in_ok-told.told.regions) c.deref-4.ensures.value c.in_ok-told.ensures.told in
     made_is_table d c.points.ensures.valid _ _ _ _ _ _ _ _ _ (c.in_ok-polygon.ensures ∙ c.polygon-2.ensures) c.in_ok-frame.ensures.frame c.in_ok-names.ensures told c.in_ok-inner.ensures.inner
+
+pub returns-clause-distances : goal.returns-clause-distances
+unfolding told_by
+returns-clause-distances c =
+    let told = subst (λ ns. AreTold c.args.drawing.now.drawing ns c.in_ok-told.told.regions) c.deref-4.ensures.value c.in_ok-told.ensures.told in
+    told.distance
