@@ -13,10 +13,13 @@ use Rattle.region_table.proofs.Tests.{nice_from_test}
 use Rattle.mod2_rank.specs.declared.outcome.Verdict.TheVariants.{Chain, Functional}
 use Rattle.mod2_rank.proofs.Examples.{annulus_one_left_twist_outcome, annulus_one_left_twist_rank}
 use Rattle.witness_check.specs.Belonging.{BelongsTo, IsFirstDrawing}
+use Rattle.witness_check.specs.Checked.{checked, nonzero, valid}
+use Rattle.witness_check.specs.Grammar.{parsed, says}
 use Rattle.witness_check.specs.Line.{line, lines, listed}
 use Rattle.witness_check.specs.OpenBook.{OpenBook, joined_surface, words_on}
 use Rattle.witness_check.specs.Text.{certificate_text}
 use Rattle.witness_check.specs.declared.certificate.Certificate.{Certificate}
+use Rattle.witness_check.proofs.TextLaws.{printed_parses}
 
 -- some lines, each with its line feed
 abbrev text_of_lines : List (List ℕ) → List ℕ
@@ -50,6 +53,14 @@ annulus_text : certificate_text plain_annulus ≡ text_of_lines (
     ∷ codes "rank 0" ∷ codes "homology 2" ∷ codes "nonzero 1" ∷ codes "end" ∷ [])
 unfolding line lines listed digits
 annulus_text = refl
+
+-- the text says this certificate, and it is valid
+annulus_parsed : parsed (certificate_text plain_annulus) ≡ says plain_annulus
+annulus_parsed = printed_parses plain_annulus refl
+
+annulus_valid : checked (certificate_text plain_annulus) ≡ valid nonzero
+unfolding line lines listed digits
+annulus_valid = refl
 
 -- the annulus with one left twist about its core
 abbrev left_annulus : OpenBook

@@ -1,4 +1,14 @@
 pub mod Belonging
+pub mod Checked
+pub mod Forms
+pub mod Grammar
 pub mod Line
+pub mod Lines
 pub mod OpenBook
+pub mod PivotLines
+pub mod Reading
+pub mod Reason
+pub mod Rules
+pub mod Splitting
 pub mod Text
+pub mod Written
