@@ -59,9 +59,6 @@ module _ (p : Polygon) (is : IsPolygon p) (k : ℕ) (lk : k < sides p) (slides :
   more : (a b : ℕ) → a ≤ b → at a ≤ at b
   more a b l = base_more n len a b l
 
-  at_zero : at 0 ≡ 0
-  at_zero = refl
-
   -- the letter after the last of exit i is the first of the next exit
   next_last : (i : ℕ) → i < n → next_letter w (at i + (len i - 1)) ≡ get_or (f (following n i)) 0 0
   next_last i l =

@@ -26,9 +26,6 @@ module _ (p : Polygon) (is : IsPolygon p) (k : ℕ) (lk : k < sides p) (slides :
   length-slid = sym (length_sum (slid_sides p k)) ∙ (slid_sum p is k lk slides (λ s. 1) ∙ (length_sum (below n) ∙ length-range_with_len 0 n))
 
   -- old numbers by new, and new by old
-  abbrev pub old_at : ℕ → ℕ
-  old_at i = get_or (slid_sides p k) i 0
-
   pub old_less : (i : ℕ) → i < sides p → get_or (slid_sides p k) i 0 < sides p
   old_less i l = slid_less p is k lk slides _ (mem_get_or (slid_sides p k) i 0 (omega (arith, l, length-slid)))
 
