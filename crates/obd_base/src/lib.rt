@@ -6,6 +6,7 @@
 #![tactic(auto)]
 
 mod causes;
+mod endless;
 mod items;
 mod mem_sink;
 mod mem_source;
@@ -18,6 +19,7 @@ mod text;
 mod whole;
 
 pub use causes::{Failed, NoMemory, WriteFault};
+pub use endless::Endless;
 pub use items::Items;
 pub use mem_sink::{MemSink, NullSink};
 pub use mem_source::{MemSource, SureSource};

@@ -1,6 +1,6 @@
 // Readings of seven bytes, in pieces, with failures, at the limit, and through a reader.
 use crate::ends::source_of;
-use obd_base::{ReadRefusal, Source, StdSource, SureSource, read_all};
+use obd_base::{Endless, ReadRefusal, Source, StdSource, SureSource, read_all};
 use std::alloc::Global;
 use std::test::Fail;
 
@@ -50,5 +50,21 @@ fn a_standard_source_gives_the_bytes_of_its_reader(rt: HostRuntime) -> Result<()
 fn a_sure_source_gives_its_bytes(rt: HostRuntime) -> Result<(), Fail> {
     let mut source = SureSource::new(BYTES.to_vec(rt.alloc())?);
     assert!(rt; ends_so(rt.alloc(), &mut source, 7, None));
+    Ok(())
+}
+
+#[test]
+fn an_endless_source_is_too_long_for_any_limit(rt: HostRuntime) -> Result<(), Fail> {
+    for limit in [0, 7, 1000] {
+        assert!(rt;
+            ends_so(
+                rt.alloc(),
+                &mut Endless::new(b'a'),
+                limit,
+                Some(ReadRefusal::InputLong)
+            ),
+            "{limit}"
+        );
+    }
     Ok(())
 }

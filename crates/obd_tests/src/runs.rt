@@ -1,6 +1,6 @@
 // Runs of the top call over ends that fail, have no room, or tell nothing, and at the document's limit.
 use crate::ends::{sink_of, source_of};
-use obd_base::{MemSink, NullSink, Sink, Source, SureSource};
+use obd_base::{Endless, MemSink, NullSink, Sink, Source, SureSource};
 use obd_cli::{DOCUMENT_LIMIT, Status, run};
 use std::alloc::Global;
 use std::test::Fail;
@@ -105,6 +105,21 @@ fn one_byte_above_the_limit_is_refused(rt: HostRuntime) -> Result<(), Fail> {
         assert!(rt;
             writes(rt.alloc(), "decide", &mut source, Status::Refused, text)?,
             "{size}"
+        );
+    }
+    Ok(())
+}
+
+#[test]
+fn endless_spaces_are_too_long_for_each_command(rt: HostRuntime) -> Result<(), Fail> {
+    for (word, text) in [
+        ("decide", "refused 1 InputLong 1048576\n"),
+        ("page", "refused 1 InputLong 1048576\n"),
+    ] {
+        let mut source = Endless::new(b' ');
+        assert!(rt;
+            writes(rt.alloc(), word, &mut source, Status::Refused, text)?,
+            "{word}"
         );
     }
     Ok(())
