@@ -72,12 +72,16 @@ pub told_grown : (counted : Bool) (names : List ℕ) (before : List Region) (mor
     → length (told_by false more after) ≡ length (told_by counted names before) + 2
 told_grown counted names before more after grown = omega (arith, told_size names before counted, told_size more after false, grown)
 
--- the pieces that aren't base are the same
+-- the pieces that aren't base are the same, among the first ones
+pub flags_told : (counted : Bool) (names : List ℕ) (regions : List Region) (n : ℕ) → filter (λ p. not (region_in regions p).base) (below n) ≡ filter (λ p. not (region_in (told_by counted names regions) p).base) (below n)
+flags_told counted names regions n =
+    filter_alike (λ p. not (region_in regions p).base) (λ p. not (region_in (told_by counted names regions) p).base) (below n) (λ p m. ap not (sym (told_base names regions counted p)))
+
+-- and among all
 pub inner_told : (counted : Bool) (names : List ℕ) (regions : List Region) → filter (λ p. not (region_in regions p).base) (below (length regions))
     ≡ filter (λ p. not (region_in (told_by counted names regions) p).base) (below (length (told_by counted names regions)))
 inner_told counted names regions =
-    filter_alike (λ p. not (region_in regions p).base) (λ p. not (region_in (told_by counted names regions) p).base) (below (length regions)) (λ p m. ap not (sym (told_base names regions counted p)))
-    ∙ ap (λ n. filter (λ p. not (region_in (told_by counted names regions) p).base) (below n)) (sym (told_size names regions counted))
+    flags_told counted names regions (length regions) ∙ ap (λ n. filter (λ p. not (region_in (told_by counted names regions) p).base) (below n)) (sym (told_size names regions counted))
 
 -- with other distances they differ in distances alone
 pub told_differ : (counted : Bool) (names : List ℕ) (before after : List Region) → DifferInDistance before after → DifferInDistance (told_by counted names before) (told_by counted names after)
@@ -107,7 +111,7 @@ pub differ_from : {before kept after : List Region} → before ≡ kept → Diff
 differ_from {after = after} same differ = subst (λ rs. DifferInDistance rs after) same differ
 
 -- pieces that are counted by names are as the names say, where each name is some span's
-pub counted_same : (names : List ℕ) (regions now : List Region) → AreSized (λ s. get_or names s 0) (length names) regions now
+counted_same : (names : List ℕ) (regions now : List Region) → AreSized (λ s. get_or names s 0) (length names) regions now
     → ((p : ℕ) → p < length regions → 0 < size_so_far (λ s. get_or names s 0) (length names) p) → told_by false names regions ≡ told_by true names now
 unfolding told_by
 counted_same names regions now sized met =
@@ -115,3 +119,8 @@ counted_same names regions now sized met =
     let lp : p < length regions = omega (arith, l, named_size names regions) in
     let ln : p < length now = omega (arith, lp, sized.count) in
     named_at names regions p lp ∙ region_made (sym (sized.base p)) (sym (sized.first p ln (met p lp))) (sym (sized.size p ln)) (sym (sized.distance p)))
+
+-- and so where they weren't counted before
+pub counted_now : (counted : Bool) (names : List ℕ) (regions now : List Region) → counted ≡ false → AreSized (λ s. get_or names s 0) (length names) regions now
+    → ((p : ℕ) → p < length regions → 0 < size_so_far (λ s. get_or names s 0) (length names) p) → told_by counted names regions ≡ told_by true names now
+counted_now counted names regions now flag sized met = ap (λ b. told_by b names regions) flag ∙ counted_same names regions now sized met

@@ -35,10 +35,9 @@ module _ (d : Drawing) (ok : IsEmbedded d) (polygon : Polygon) (starts names mat
   pub made_is_kept : sides d.polygon ≤ 16 → length (all_exits d) < 2 ^ 28 → IsKept (shown polygon starts names mates begins regions inner room) ends
   made_is_kept few_sides few = record { drawing = d; embedded = ok; few_sides = few_sides; few = few; table = made_is_table; as_many = frame.as_many; known = frame.known }
 
--- no more names are left than there are pieces
-pub inner_short : (inner : List ℕ) (regions : List Region) → inner ≡ filter (λ p. not (region_in regions p).base) (below (length regions)) → length inner ≤ length regions
-inner_short inner regions is =
-    omega (arith, ap length is, filter_short (λ p. not (region_in regions p).base) (below (length regions)), length-range_with_len 0 (length regions))
+-- no more names are left than there were
+pub inner_short : (inner : List ℕ) (regions : List Region) (n : ℕ) → inner ≡ filter (λ p. not (region_in regions p).base) (below n) → length inner ≤ n
+inner_short inner regions n is = omega (arith, ap length is, filter_short (λ p. not (region_in regions p).base) (below n), length-range_with_len 0 n)
 
 -- there are few pieces
 pub few_told : (d : Drawing) → IsEmbedded d → (names : List ℕ) (regions : List Region) → AreTold d names regions → sides d.polygon ≤ 16 → length (all_exits d) < 2 ^ 28 → length regions < 2 ^ 32

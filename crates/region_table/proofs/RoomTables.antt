@@ -1,6 +1,7 @@
 -- Tables that differ in their distances or their room.
-use Rattle.std.proofs.Common.{◌≡◌, ℕ, suc, ◌+◌, ◌*◌, ◌<◌, ◌≤◌, ◌^◌, Bool, eqb, List, Vec, Global, length, get_or, refl, sym, ◌∙◌, ap, subst, arith}
+use Rattle.std.proofs.Common.{◌≡◌, ℕ, suc, ◌+◌, ◌*◌, ◌<◌, ◌≤◌, ◌^◌, Bool, eqb, not, List, filter, Vec, Global, length, get_or, refl, sym, ◌∙◌, ap, subst, arith}
 use Rattle.std.specs.Prelude.{vec_capacity, vec_len}
+use Rattle.obd_base.specs.Lists.{below}
 use Rattle.page_surface.specs.Drawing.{Drawing, IsEmbedded}
 use Rattle.page_surface.specs.Polygon.{Polygon}
 use Rattle.drawing.specs.Pieces.{distance, span_count}
@@ -14,6 +15,7 @@ use Rattle.obd_base.proofs.lists.Counts.{passing_counted}
 use Rattle.region_table.specs.Asked.{told_by}
 use Rattle.region_table.specs.Counted.{size_so_far}
 use Rattle.region_table.proofs.AskedTables.{told_base, told_distance, told_size}
+use Rattle.region_table.proofs.ListedSteps.{filter_alike}
 use Rattle.region_table.proofs.TableLaws.{name_count}
 use Rattle.drawing.proofs.Diagram.{chord_count}
 
@@ -69,6 +71,10 @@ module _ (polygon : Polygon) (starts names mates : List ℕ) (begins : List (Lis
           as_many = kept.as_many;
           known = kept.known;
         };
+        inner_in_order =
+            all.inner_in_order
+            ∙ (filter_alike (λ p. not (region_in before p).base) (λ p. not (region_in after p).base) (below (length before)) (λ p m. ap not (sym (differ.base p)))
+            ∙ ap (λ n. filter (λ p. not (region_in after p).base) (below n)) (sym differ.count));
         as_many_starts = omega (arith, all.as_many_starts, differ.count);
         as_many_listed = all.as_many_listed;
         in_order = all.in_order;

@@ -3,6 +3,7 @@ pub mod AfterFinger
 pub mod Changed
 pub mod EndsAfter
 pub mod Entries
+pub mod Flags
 pub mod FrameAfter
 pub mod Homes
 pub mod IsPushed

@@ -20,7 +20,7 @@ use crate::entry::Entry;
 use crate::frame::{Frame, frame_of, reserve_frame, write_frame};
 use crate::listing::{Listing, grow_listing, list_anew, listing_of, reserve_listing};
 use crate::names::number_pieces;
-use crate::told::{Told, inner_names, put_inner, told_of};
+use crate::told::{Entered, Told, inner_names, renew_inner, told_of};
 use drawing::{Drawing, Finger};
 use obd_base::{NoMemory, PieceNo, Point, SideNo, StrandNo};
 use page_surface::Polygon;
@@ -150,12 +150,29 @@ impl Regions {
         }
     }
 
+    // The piece of a span that a finger is to enter.
+    fn entered(&self, span: u32) -> Entered
+        requires { span < length self.now.names }
+        ensures piece { result.piece ≡ name_at self.now span }
+        ensures inside { result.piece < length self.now.regions }
+        ensures base { result.base ≡ (region_in self.now.regions result.piece).base }
+        ensures pieces { result.pieces ≡ length self.now.regions }
+    {
+        let piece = self.name(span).number() as usize;
+        Entered {
+            piece,
+            base: self.is_marked(piece),
+            pieces: self.pieces(),
+        }
+    }
+
     /// Makes the table that of the drawing after a finger, from that of the drawing before. The distances are stale then,
     /// so `distance` and `weight` wait for `measure`. Each piece that the finger keeps has the name that it had, and every
     /// other piece has a name that no kept piece has. Answers how many pieces changed or are new: four or five.
     ///
     /// Takes no memory: it uses up the room for a finger (see `reserve`). Linear in the points and sides: each list is
-    /// shifted once, in order, and the pieces that aren't base are listed. Sizes and edges aren't counted before `measure`.
+    /// shifted once, in order. The list of the pieces that aren't base grows by the new ones, and is made anew only where the
+    /// piece entered was base and isn't any more. Sizes and edges aren't counted before `measure`.
     pub fn after_finger(&mut self, drawing: &Drawing, finger: &Finger) -> u32
         requires before { (d : Shown) × IsEmbedded d × IsLegal d finger.now × IsTableOf d self.old × (drawing.now.drawing ≡ pushed d finger.now) }
         requires room { 1 ≤ self.old.room }
@@ -170,11 +187,12 @@ impl Regions {
         let push = self.push_of(finger);
         let behind = self.name(push.near);
         let past = self.name(push.entry.beyond);
+        let entered = self.entered(push.entry.entered);
         write_names(&mut self.names, push, self.told.len() as u32);
         write_frame(&mut self.frame, drawing, finger, push);
         self.told.grow();
         self.told.mark(drawing, &self.frame.starts, &self.names);
-        put_inner(&self.told, &mut self.inner);
+        renew_inner(&self.told, entered, &mut self.inner);
         grow_listing(&mut self.listing);
         self.counted = false;
         self.room -= 1;

@@ -203,19 +203,50 @@ pub(crate) fn grow_by_two<T: Copy + Drop>(list: &mut Vec<T>, item: T)
     list.push_reserved(item);
 }
 
-// Puts the names of the pieces that aren't base in a list, in order. It takes no memory. Linear in the pieces.
-pub(crate) fn put_inner(told: &Told, inner: &mut Vec<PieceNo>)
+// Puts the names of the pieces that aren't base in a list, in order, where those below a number are in it already. It
+// takes no memory. Linear in the pieces from that number on.
+fn put_inner(told: &Told, from: usize, inner: &mut Vec<PieceNo>)
+    requires from { from ≤ length told.now.regions }
     requires few { length told.now.regions < 2 ^ 32 }
     requires room { length told.now.regions ≤ vec_capacity inner.old }
+    requires so_far { inner.old.items ≡ filter (λ p. not (region_in told.now.regions p).base) (below from) }
     ensures inner { inner.new.items ≡ filter (λ p. not (region_in told.now.regions p).base) (below (length told.now.regions)) }
     ensures room { vec_capacity inner.new ≡ vec_capacity inner.old }
 {
-    inner.clear();
-    for name in 0..told.len() {
+    for name in from..told.len() {
         let region = told.region(name);
         if !region.base {
             inner.push_reserved(PieceNo::new(name as u32));
         }
+    }
+}
+
+// A piece before a finger enters it: its name, whether it is base, and how many pieces there are.
+#[derive(Clone, Copy)]
+pub(crate) struct Entered {
+    pub(crate) piece: usize,
+    pub(crate) base: bool,
+    pub(crate) pieces: usize,
+}
+
+// Puts the names of the pieces that aren't base in a list after a finger, in order. A finger adds two pieces, and of the
+// others only the piece entered may cease to be base: where it doesn't, all that is listed stays, and the new ones come
+// last. It takes no memory. Constant time there, and else linear in the pieces.
+pub(crate) fn renew_inner(told: &Told, entered: Entered, inner: &mut Vec<PieceNo>)
+    requires entered { entered.piece < length told.now.regions }
+    requires more { entered.pieces ≤ length told.now.regions }
+    requires few { length told.now.regions < 2 ^ 32 }
+    requires room { length told.now.regions ≤ vec_capacity inner.old }
+    requires listed { (region_in told.now.regions entered.piece).base ≡ entered.base → inner.old.items ≡ filter (λ p. not (region_in told.now.regions p).base) (below entered.pieces) }
+    ensures inner { inner.new.items ≡ filter (λ p. not (region_in told.now.regions p).base) (below (length told.now.regions)) }
+    ensures room { vec_capacity inner.new ≡ vec_capacity inner.old }
+{
+    let now = told.region(entered.piece);
+    if now.base == entered.base {
+        put_inner(told, entered.pieces, inner);
+    } else {
+        inner.clear();
+        put_inner(told, 0, inner);
     }
 }
 
@@ -226,7 +257,7 @@ pub(crate) fn inner_names(alloc: Global, told: &Told) -> Result<Vec<PieceNo>, No
     ensures room { IfOk result (λ inner. length told.now.regions ≤ vec_capacity inner) }
 {
     let mut inner = Vec::with_capacity(alloc, told.len())?;
-    put_inner(told, &mut inner);
+    put_inner(told, 0, &mut inner);
     Ok(inner)
 }
 

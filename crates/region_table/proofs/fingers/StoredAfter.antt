@@ -1,8 +1,8 @@
 -- What code writes after a finger is the table of the drawing after it.
-use Rattle.std.proofs.Common.{◌≡◌, ℕ, ◌+◌, ◌<◌, ◌≤◌, ◌^◌, cond, eqb, not, List, filter, length, get_or, sym, ◌∙◌, ap, subst, arith}
-use Rattle.std.proofs.lemmas.Bool.{eq-eqb}
+use Rattle.std.proofs.Common.{◌≡◌, ◌≢◌, ℕ, ◌+◌, ◌<◌, ◌≤◌, ◌^◌, Bool, cond, eqb, not, List, filter, length, get_or, sym, ◌∙◌, ap, subst, arith, inl, inr}
+use Rattle.std.proofs.lemmas.Bool.{cases_eq, eq-eqb}
 use Rattle.obd_base.specs.Lists.{below}
-use Rattle.obd_base.proofs.lists.Below.{count_less}
+use Rattle.obd_base.proofs.lists.Below.{count_less, mem_below}
 use Rattle.page_surface.specs.Drawing.{Drawing, IsEmbedded, all_exits}
 use Rattle.page_surface.specs.Polygon.{Polygon, sides}
 use Rattle.drawing.specs.declared.finger.Finger.{Finger}
@@ -10,12 +10,15 @@ use Rattle.drawing.specs.Fingers.{IsLegal, chord_at, entered, entered_beyond, pu
 use Rattle.drawing.specs.Pieces.{span_count}
 use Rattle.drawing.proofs.fingers.Effects.{later_first, pushed_embedded, pushed_polygon}
 use Rattle.region_table.specs.Changed.{AreChanged, KeepsNames}
-use Rattle.region_table.specs.Counted.{size_so_far}
+use Rattle.region_table.specs.Counted.{has_gap, size_so_far}
 use Rattle.region_table.specs.Ends.{ChordNo, IsFrameOf, IsKept, shown}
 use Rattle.region_table.specs.FingerLists.{IsNamedByFinger, IsPush, comes_in_front}
 use Rattle.region_table.specs.Table.{IsTableOf, Region, Table, region_in}
 use Rattle.region_table.specs.Told.{AreSeen}
+use Rattle.region_table.proofs.ListedSteps.{filter_alike}
+use Rattle.region_table.proofs.NamingLaws.{base_by_name}
 use Rattle.region_table.proofs.fingers.AfterFinger as after
+use Rattle.region_table.proofs.fingers.Flags.{flag_stays}
 use Rattle.region_table.proofs.fingers.NamesAfter.{told_after, used_after}
 
 -- the names of a drawing's pieces that a finger writes, where its numbers are those of the drawing
@@ -78,6 +81,33 @@ module _ (polygon : Polygon) (starts names mates : List ℕ) (begins : List (Lis
         let (s, ls, q) = used_after d (pushed d f) (entered d f) (entered_beyond d f) (later_first d f) (chord_at d f.strand f.chord) (after.es d ok f l) (after.push d ok f l) (λ s. get_or names s 0) (λ s. get_or names_after s 0)
         (length regions) told.naming told.told told.used writes p (subst (λ n. p < n) grown lp) in
         omega (arith, count_less (λ s. eqb (get_or names_after s 0) p) s (span_count (pushed d f)) (eq-eqb (get_or names_after s 0) p q) ls)
+
+    -- each old piece is base or not as a gap has its name,
+    was_base : (p : ℕ) → p < length regions → (region_in regions p).base ≡ has_gap d (λ s. get_or names s 0) p
+    was_base p lp =
+        let (s, ls, q) = told.used p lp in
+        subst (λ r. (region_in regions r).base ≡ has_gap d (λ s. get_or names s 0) r) q (told.base s ls ∙ sym (base_by_name d ok (λ s. get_or names s 0) told.naming s ls))
+
+    module _ (seen : AreSeen (pushed d f) (λ s. get_or names_after s 0) regions_after) where
+      -- and stays so, but for the one entered
+      other_stays : (p : ℕ) → p < length regions → p ≢ get_or names one 0 → (region_in regions_after p).base ≡ (region_in regions p).base
+      other_stays p lp ne =
+          seen.base p (omega (arith, lp, grown))
+          ∙ (flag_stays d (pushed d f) ok (entered d f) (entered_beyond d f) (later_first d f) (chord_at d f.strand f.chord) (after.es d ok f l) (after.push d ok f l) (λ s. get_or names s 0) (λ s. get_or names_after s 0)
+          (length regions) writes p lp (subst (λ x. p ≢ get_or names x 0) push.entered_is ne)
+          ∙ sym (was_base p lp))
+
+      -- so where that one does, the old pieces that aren't base are still the same
+      pub inner_stays : (piece : ℕ) (was : Bool) → piece ≡ get_or names one 0 → was ≡ (region_in regions piece).base → (region_in regions_after piece).base ≡ was
+          → inner ≡ filter (λ p. not (region_in regions p).base) (below (length regions)) → inner ≡ filter (λ p. not (region_in regions_after p).base) (below (length regions))
+      inner_stays piece was is base now listed =
+          listed ∙ filter_alike (λ p. not (region_in regions p).base) (λ p. not (region_in regions_after p).base) (below (length regions)) (λ p m. ap not (sym (flag p (mem_below (length regions) p m))))
+        where
+          flag : (p : ℕ) → p < length regions → (region_in regions_after p).base ≡ (region_in regions p).base
+          flag p lp = elim (cases_eq p piece) [
+            | inl e ↦ subst (λ r. (region_in regions_after r).base ≡ (region_in regions r).base) (sym e) (now ∙ base)
+            | inr ne ↦ other_stays p lp (λ e. ne (e ∙ sym is))
+          ]
 
     module _ (frame : IsFrameOf (pushed d f) starts_after mates_after begins_after ends_after) (seen : AreSeen (pushed d f) (λ s. get_or names_after s 0) regions_after)
         (left : inner_after ≡ filter (λ p. not (region_in regions_after p).base) (below (length regions_after))) where

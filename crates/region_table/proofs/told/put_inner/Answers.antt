@@ -1,9 +1,15 @@
-use Rattle.std.proofs.Common.{ℕ, Bool, Vec, Global, not, ◌∙◌, sym, ap, arith}
+use Rattle.std.proofs.Common.{ℕ, Bool, Vec, Global, not, refl, ◌∙◌, sym, ap, arith}
 use Rattle.std.specs.Prelude.{vec_capacity, vec_len}
 use Rattle.region_table.specs.Table.{Region, region_in}
+use Rattle.region_table.proofs.MadeTable.{inner_short}
 use Rattle.region_table.proofs.ToldSteps.{failing_more, passing_more}
 use Rattle.region_table.proofs.told.put_inner.Goals as goal
 use Rattle.region_table.proofs.told.put_inner.Goals.{then-not-region, else-not-region}
+
+pub loop-name-init : goal.loop-name-init
+loop-name-init c =
+    let inner = c.args.inner.now in
+    record { so_far = c.requires.so_far; short = omega (arith, inner_short inner.items c.args.told.now.regions c.args.from c.requires.so_far, inner.ok); room = refl }
 
 pub loop-name-preserved : goal.loop-name-preserved
 loop-name-preserved c =

@@ -1,9 +1,9 @@
-use Rattle.std.proofs.Common.{◌≡◌, ℕ, ◌<◌, Bool, true, false, List, length, get_or, refl, sym, ◌∙◌, ap, subst, arith}
-use Rattle.region_table.specs.Asked.{told_by}
+use Rattle.std.proofs.Common.{◌≡◌, ℕ, ◌<◌, true, not, List, filter, length, get_or, refl, sym, ◌∙◌, ap, subst, arith}
+use Rattle.obd_base.specs.Lists.{below}
 use Rattle.region_table.specs.Ends.{IsKept, shown}
-use Rattle.region_table.specs.Table.{Region}
+use Rattle.region_table.specs.Table.{Region, region_in}
 use Rattle.region_table.specs.Told.{AreSized}
-use Rattle.region_table.proofs.AskedTables.{counted_same, told_size}
+use Rattle.region_table.proofs.AskedTables.{counted_now, told_size}
 use Rattle.region_table.proofs.KeptReads.{few_names}
 use Rattle.region_table.proofs.ListedSteps.{listed_same}
 use Rattle.region_table.proofs.RoomTables.{names_inside, names_met}
@@ -34,10 +34,6 @@ list_anew-requires-clause-as_many c =
     let i = c.self.inside in
     omega (arith, c.self.invariant.0.as_many_starts, told_size i.names.items i.told.regions i.counted, c.count.ensures.counted.count)
 
--- the pieces that are counted are those that were told
-same : (counted : Bool) (names : List ℕ) (regions now : List Region) → counted ≡ false → told_by false names regions ≡ told_by true names now → told_by counted names regions ≡ told_by true names now
-same counted names regions now flag is = ap (λ b. told_by b names regions) flag ∙ is
-
 pub invariant_of-self : goal.invariant_of-self
 invariant_of-self c =
     let i = c.self.inside in
@@ -47,11 +43,12 @@ invariant_of-self c =
     let listed = c.list_anew.ensures in
     let after = c.list_anew.new.listing in
     let sized = subst (λ (ns : List ℕ). AreSized (λ s. get_or ns s 0) (length ns) i.told.regions now) c.deref.ensures.value c.count.ensures.counted in
-    let is = same i.counted i.names.items i.told.regions now c.if-not-self.true (counted_same i.names.items i.told.regions now sized (names_met i.counted i.names.items i.told.regions _ i.frame.ends.items before.kept refl)) in
+    let is = counted_now i.counted i.names.items i.told.regions now c.if-not-self.true sized (names_met i.counted i.names.items i.told.regions _ i.frame.ends.items before.kept refl) in
     let many : length now ≡ length i.told.regions = c.count.ensures.counted.count in
     let was = told_size i.names.items i.told.regions i.counted in (
       record {
         kept = subst (λ (rs : List Region). IsKept (shown i.polygon i.frame.starts.items i.names.items i.frame.mates.items i.frame.begins.lists rs i.inner.items i.room) i.frame.ends.items) is before.kept;
+        inner_in_order = subst (λ (rs : List Region). i.inner.items ≡ filter (λ p. not (region_in rs p).base) (below (length rs))) is before.inner_in_order;
         as_many_starts = omega (arith, listed.as_many, told_size i.names.items now true);
         as_many_listed = omega (arith, listed.in_order.as_many, ap (λ (xs : List ℕ). length xs) c.deref-then-not-self.ensures.value);
         in_order = λ e. listed_same i.names.items c.deref-then-not-self.result.now after.starts.items after.starts.items after.spans.items c.deref-then-not-self.ensures.value refl listed.in_order;
@@ -77,5 +74,5 @@ returns-then-not-self c =
     let now = c.count.new.self.regions in
     let before = c.self.invariant.0 in
     let sized = subst (λ (ns : List ℕ). AreSized (λ s. get_or ns s 0) (length ns) i.told.regions now) c.deref.ensures.value c.count.ensures.counted in
-    let is = same i.counted i.names.items i.told.regions now c.if-not-self.true (counted_same i.names.items i.told.regions now sized (names_met i.counted i.names.items i.told.regions _ i.frame.ends.items before.kept refl)) in
+    let is = counted_now i.counted i.names.items i.told.regions now c.if-not-self.true sized (names_met i.counted i.names.items i.told.regions _ i.frame.ends.items before.kept refl) in
     ap (λ (rs : List Region). shown i.polygon i.frame.starts.items i.names.items i.frame.mates.items i.frame.begins.lists rs i.inner.items i.room) (sym is) ∙ c.self.view_is

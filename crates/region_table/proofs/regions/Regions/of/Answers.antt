@@ -50,6 +50,7 @@ invariant_of-result c =
       record {
         kept = made_is_kept d c.points.ensures.valid _ _ _ _ _ _ _ _ _ (c.in_ok-polygon.ensures ∙ c.polygon-2.ensures) c.in_ok-frame.ensures.frame c.in_ok-names.ensures told c.in_ok-inner.ensures.inner
             (omega (arith, n, c.sides.ensures.most)) (omega (arith, c.points.ensures.value, c.points.ensures.few));
+        inner_in_order = c.in_ok-inner.ensures.inner;
         as_many_starts = c.in_ok-listing.ensures.as_many;
         as_many_listed = omega (arith, c.in_ok-listing.ensures.in_order.as_many, ap (λ (xs : List ℕ). length xs) c.deref-5.ensures.value);
         in_order = λ e. listed_same c.in_ok-names.names.items c.deref-5.result.now c.in_ok-listing.listing.starts.items c.in_ok-listing.listing.starts.items c.in_ok-listing.listing.spans.items c.deref-5.ensures.value refl c.in_ok-listing.ensures.in_order;
@@ -64,7 +65,7 @@ invariant_of-result c =
         next_room = omega (arith, c.in_ok-listing.listing.next.ok);
         spans_room = omega (arith, c.in_ok-listing.listing.spans.ok);
         as_many_next = c.in_ok-listing.ensures.as_many_next;
-        few_inner = omega (arith, inner_short c.in_ok-inner.inner.items c.in_ok-told.told.regions c.in_ok-inner.ensures.inner, c.in_ok-inner.inner.ok);
+        few_inner = omega (arith, inner_short c.in_ok-inner.inner.items c.in_ok-told.told.regions (length c.in_ok-told.told.regions) c.in_ok-inner.ensures.inner, c.in_ok-inner.inner.ok);
         inner_room = omega (arith, c.in_ok-inner.ensures.room);
       },
     )
