@@ -58,10 +58,10 @@ module _ (page : List (List Label)) (path : List Cross) (kept : IsPath page path
   pub some_crossing : eqb (length path) 0 ≡ false
   some_crossing = fails_where_none (eqb (length path) 0) EmptyPath rules.0
 
-  known : list_all (is_known page) path ≡ true
+  pub known : list_all (is_known page) path ≡ true
   known = labels_known page path some_crossing (sym (none_mapped UnknownLabel _ rules.1.0))
 
-  few : ltb 32 (length path) ≡ false
+  pub few : ltb 32 (length path) ≡ false
   few = fails_where_none (ltb 32 (length path)) (TooManyCrossings (length path)) rules.1.1.0
 
   no_wrong : find (λ label. not (has_label_places cs label)) (below (length (labels_of page))) ≡ None

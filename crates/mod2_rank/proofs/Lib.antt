@@ -3,6 +3,7 @@ pub mod BlockLists
 pub mod Built
 pub mod ChainLaw
 pub mod ChainWalk
+pub mod CheckedVerdict
 pub mod ColumnSteps
 pub mod Columns
 pub mod Echelon
@@ -13,6 +14,8 @@ pub mod Exchange
 pub mod Expanding
 pub mod Filled
 pub mod FunctionalLaw
+pub mod GivenPivots
+pub mod GivenVerdict
 pub mod Laws
 pub mod Lean
 pub mod LeanChain
@@ -20,6 +23,7 @@ pub mod LeanOutcome
 pub mod Members
 pub mod NextPivot
 pub mod OddCounts
+pub mod OwnPivots
 pub mod Parity
 pub mod Parts
 pub mod PivotColumns

@@ -18,27 +18,27 @@ use Rattle.mod2_rank.proofs.Totals.{first_columns}
 use Rattle.mod2_rank.proofs.Vectors.{differ_false, plus_both, plus_comm, plus_itself, plus_none, plus_swap, plus_twice}
 
 -- the reduced columns, as tests
-abbrev reduced_tests : List Reducer → List Rows
+abbrev pub reduced_tests : List Reducer → List Rows
 reduced_tests [] = []
 reduced_tests (p ∷ ps) = has p.column ∷ reduced_tests ps
 
 -- each reduced column ascends
-abbrev AllFit : ℕ → List Reducer → Type 0
+abbrev pub AllFit : ℕ → List Reducer → Type 0
 AllFit rows [] = Unit {0}
 AllFit rows (p ∷ ps) = Ascends 0 rows p.column × AllFit rows ps
 
 -- each has its row, and none after it has that
-abbrev Triangular : List Reducer → Type 0
+abbrev pub Triangular : List Reducer → Type 0
 Triangular [] = Unit {0}
 Triangular (p ∷ ps) = (has p.column p.row ≡ true) × ((q : Reducer) → Mem q ps → has q.column p.row ≡ false) × Triangular ps
 
 module _ (rows : ℕ) where
   -- the sum of two columns
-  sum_is : (c d : List ℕ) → Ascends 0 rows c → Ascends 0 rows d → has (sum_of rows (c ∷ d ∷ [])) ≡ plus (has c) (has d)
+  pub sum_is : (c d : List ℕ) → Ascends 0 rows c → Ascends 0 rows d → has (sum_of rows (c ∷ d ∷ [])) ≡ plus (has c) (has d)
   sum_is c d a b = sum_of_is rows (c ∷ d ∷ []) (a, (b, tt)) ∙ ap (plus (has c)) (plus_none (has d))
 
   -- one step leaves a column that ascends
-  once_ascends : (p : Reducer) (c : List ℕ) → Ascends 0 rows c → Ascends 0 rows (reduced_once rows p c)
+  pub once_ascends : (p : Reducer) (c : List ℕ) → Ascends 0 rows c → Ascends 0 rows (reduced_once rows p c)
   once_ascends p c a = go (has c p.row)
     where
       go : (b : Bool) → Ascends 0 rows (cond b (sum_of rows (c ∷ p.column ∷ [])) c)
@@ -73,7 +73,7 @@ module _ (rows : ℕ) where
       go false = rw (plus_itself (has c)) (span_none (has p.column ∷ b))
 
   -- the same of all steps: the column ascends,
-  by_ascends : (ps : List Reducer) (c : List ℕ) → Ascends 0 rows c → Ascends 0 rows (reduced_by rows ps c)
+  pub by_ascends : (ps : List Reducer) (c : List ℕ) → Ascends 0 rows c → Ascends 0 rows (reduced_by rows ps c)
   by_ascends [] c a = a
   by_ascends (p ∷ ps) c a = by_ascends ps (reduced_once rows p c) (once_ascends p c a)
 
@@ -85,14 +85,14 @@ module _ (rows : ℕ) where
       by_keeps ps (reduced_once rows p c) r f.1 (once_ascends p c a) (λ q m. off q (inr m)) (once_keeps p c r f.0 a (off p (inl refl)) out)
 
   -- and none of their rows,
-  by_clear : (ps : List Reducer) (c : List ℕ) → Triangular ps → AllFit rows ps → Ascends 0 rows c → (q : Reducer) → Mem q ps → has (reduced_by rows ps c) q.row ≡ false
+  pub by_clear : (ps : List Reducer) (c : List ℕ) → Triangular ps → AllFit rows ps → Ascends 0 rows c → (q : Reducer) → Mem q ps → has (reduced_by rows ps c) q.row ≡ false
   by_clear [] c t f a q m = absurd m
   by_clear (p ∷ ps) c t f a q (inl e) =
       rw (e) (by_keeps ps (reduced_once rows p c) p.row f.1 (once_ascends p c a) t.1 (once_clear p c f.0 a t.0))
   by_clear (p ∷ ps) c t f a q (inr m) = by_clear ps (reduced_once rows p c) t.2 f.1 (once_ascends p c a) q m
 
   -- and what was added is a sum of reduced columns
-  by_span : (ps : List Reducer) (c : List ℕ) → AllFit rows ps → Ascends 0 rows c → InSpan (reduced_tests ps) (plus (has (reduced_by rows ps c)) (has c))
+  pub by_span : (ps : List Reducer) (c : List ℕ) → AllFit rows ps → Ascends 0 rows c → InSpan (reduced_tests ps) (plus (has (reduced_by rows ps c)) (has c))
   by_span [] c f a = plus_itself (has c)
   by_span (p ∷ ps) c f a =
       let d : List ℕ = reduced_once rows p c in
@@ -102,12 +102,12 @@ module _ (rows : ℕ) where
       subst (λ (w : Rows). InSpan (reduced_tests (p ∷ ps)) w) (ap (plus (plus (has v) (has d))) (plus_comm (has d) (has c)) ∙ plus_both (has v) (has c) (has d)) both
 
 -- one more at the end: its column ascends too,
-fit_push : (rows : ℕ) (ps : List Reducer) (p : Reducer) → AllFit rows ps → Ascends 0 rows p.column → AllFit rows (ps ++ p ∷ [])
+pub fit_push : (rows : ℕ) (ps : List Reducer) (p : Reducer) → AllFit rows ps → Ascends 0 rows p.column → AllFit rows (ps ++ p ∷ [])
 fit_push rows [] p f a = (a, tt)
 fit_push rows (q ∷ ps) p f a = (f.0, fit_push rows ps p f.1 a)
 
 -- it has its row, and none of those before,
-triangular_push : (ps : List Reducer) (p : Reducer) → Triangular ps → has p.column p.row ≡ true → ((q : Reducer) → Mem q ps → has p.column q.row ≡ false) → Triangular (ps ++ p ∷ [])
+pub triangular_push : (ps : List Reducer) (p : Reducer) → Triangular ps → has p.column p.row ≡ true → ((q : Reducer) → Mem q ps → has p.column q.row ≡ false) → Triangular (ps ++ p ∷ [])
 triangular_push [] p t own off = (own, (λ q m. absurd m), tt)
 triangular_push (x ∷ ps) p t own off = (
   t.0,
@@ -119,7 +119,7 @@ triangular_push (x ∷ ps) p t own off = (
 )
 
 -- and is a sum of the same columns
-in_push : (b : List Rows) (ps : List Reducer) (p : Reducer) → AllIn b (reduced_tests ps) → InSpan b (has p.column) → AllIn b (reduced_tests (ps ++ p ∷ []))
+pub in_push : (b : List Rows) (ps : List Reducer) (p : Reducer) → AllIn b (reduced_tests ps) → InSpan b (has p.column) → AllIn b (reduced_tests (ps ++ p ∷ []))
 in_push b [] p i h = (h, tt)
 in_push b (q ∷ ps) p i h = (i.0, in_push b ps p i.1 h)
 
@@ -142,7 +142,7 @@ module _ (rows : ℕ) (cs : List (List ℕ)) (ok : AllAscend rows cs) where
   stay before (p ∷ ps) q m = stay (before ++ reducer rows cs before p ∷ []) ps q (mem_left q before (reducer rows cs before p ∷ []) m)
 
   -- they are as many as the pivots
-  count : (before : List Reducer) (ps : List Pivot) → length (reducers rows cs before ps) ≡ length before + length ps
+  pub count : (before : List Reducer) (ps : List Pivot) → length (reducers rows cs before ps) ≡ length before + length ps
   count before [] = omega arith
   count before (p ∷ ps) =
       let more : length (before ++ reducer rows cs before p ∷ []) ≡ length before + 1 = length-append before (reducer rows cs before p ∷ []) in

@@ -1,6 +1,8 @@
 pub mod Ascending
 pub mod Blocks
+pub mod GivenPivots
 pub mod Linear
+pub mod PivotLines
 pub mod PivotRules
 pub mod Reduction
 pub mod RowWords

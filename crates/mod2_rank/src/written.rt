@@ -12,7 +12,7 @@ use obd_base::{Items, NoMemory};
 use std::alloc::Global;
 
 // Whether an odd number of the rows are in the set.
-fn is_odd_in(set: &RowSet, rows: &[u32]) -> bool
+pub(crate) fn is_odd_in(set: &RowSet, rows: &[u32]) -> bool
     requires { All (λ row. row < length set.now * 64) rows.now }
     ensures { result ≡ is_odd (count_by (row_in set.now) rows.now) }
 {

@@ -4,3 +4,4 @@ mod FirstWords
 pub mod Laws
 mod TurnsSoFar
 mod Refusals
+pub mod WordsAfter

@@ -19,3 +19,4 @@ mod words;
 
 pub use refusal::MonodromyRefusal;
 pub use word::drawn;
+pub use words::words_of;

@@ -77,9 +77,10 @@ fn first_words(alloc: Global, polygon: &Polygon) -> Result<Items<Items<SideNo>>,
     drawing.words(alloc)
 }
 
-/// The words of all strands after a twist word along some curves, or where they become too long. For each single twist linear
-/// in the letters of the words and in those that are set.
-pub(crate) fn words_of(
+/// The words of all strands after a twist word along some curves, each by its number in the list. `None` is a curve that
+/// crosses no side. `TooLong` comes as for `drawn`, which draws these words. For each single twist linear in the letters of the
+/// words and in those that are set.
+pub fn words_of(
     alloc: Global,
     polygon: &Polygon,
     curves: &[Option<Curve>],
