@@ -17,12 +17,12 @@ use Rattle.std.specs.Prelude.{All}
 use Rattle.witness_check.specs.OpenBook.{arcs, seam_names}
 use Rattle.witness_check.specs.Written.{last_drawing, polygon}
 use Rattle.mod2_rank.specs.PivotRules.{Reducer, reducer, reducers}
-use Rattle.witness_check.specs.PivotLines.{next_column, pivot_line_passes, rank_line_passes, verdict_line_passes}
+use Rattle.mod2_rank.specs.PivotLines.{next_column, pivot_line_passes, rank_line_passes, verdict_line_passes}
 use Rattle.mod2_rank.specs.declared.outcome.Pivot.{Pivot}
-use Rattle.witness_check.specs.Reason.{limit, basis, pivot}
+use Rattle.witness_check.specs.declared.checked.Reason.TheVariants.{Limit as limit, Basis as basis, Pivot as pivot}
 use Rattle.witness_check.specs.Rules.{Rule, book_rules, contact_rules, drawing_rules, each, final_rules, finger_rules, generator_rules, homology_rules, last_columns, outcome_rules, pivot_rules, rank_rules, rule, same_names, strand_rules, verdict_rules}
 use Rattle.mod2_rank.proofs.Laws.{ruled_pivots_are_rank}
-use Rattle.witness_check.proofs.CheckedVerdict.{is_chain, same_kind}
+use Rattle.mod2_rank.proofs.CheckedVerdict.{is_chain, same_kind}
 use Rattle.witness_check.proofs.Kept.{At, keep, keep_all}
 
 -- parts of lines that are kept
@@ -122,7 +122,7 @@ numbers_of c h =
     }
 
 -- the columns of a drawing ascend
-columns_ascend : (c : Certificate) → c.generators ≡ length (all_generators (last_drawing c)) → AllAscend c.generators (last_columns c)
+pub columns_ascend : (c : Certificate) → c.generators ≡ length (all_generators (last_drawing c)) → AllAscend c.generators (last_columns c)
 columns_ascend c e =
     subst (λ n. AllAscend n (last_columns c)) (sym e) (odd_columns_ascend (λ y x. length (domains (last_drawing c) y x)) (all_generators (last_drawing c)) (all_generators (last_drawing c)))
 

@@ -2,9 +2,12 @@
 use Rattle.std.proofs.Common.{◌≡◌, ℕ, zero, suc, ◌+◌, ◌<◌, ◌≤◌, Bool, true, false, not, leb, leb-true, leb-false, List, [], ◌∷◌, take, find, Some, None, refl, sym, ◌∙◌, ap, subst, arith, le_antisymm}
 use Rattle.std.specs.Prelude.{slice_index_or}
 use Rattle.std.proofs.lemmas.Bool.{and_parts}
-use Rattle.witness_check.specs.Checked.{Checked, IsBad, answer_of, bad, bad_line, breaks_rule, checked, first_bad, first_broken, judged, lacks_form, valid}
+use Rattle.witness_check.specs.declared.checked.Checked.{Checked}
+use Rattle.witness_check.specs.declared.checked.Checked.TheVariants.{Bad as bad, Valid as valid}
+use Rattle.witness_check.specs.Checked.{IsBad, answer_of, bad_line, breaks_rule, checked, first_bad, first_broken, judged, lacks_form}
 use Rattle.witness_check.specs.declared.certificate.Certificate.{Certificate}
-use Rattle.witness_check.specs.Reason.{Reason, form}
+use Rattle.witness_check.specs.declared.checked.Reason.{Reason}
+use Rattle.witness_check.specs.declared.checked.Reason.TheVariants.{Form as form}
 use Rattle.witness_check.specs.Rules.{Rule, line_rules}
 use Rattle.witness_check.specs.Splitting.{lines_of}
 use Rattle.witness_check.specs.Grammar.{BeginsAs, Said, breaks, certificate_lines, parsed, says}

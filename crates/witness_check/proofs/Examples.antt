@@ -13,13 +13,18 @@ use Rattle.region_table.proofs.Tests.{nice_from_test}
 use Rattle.mod2_rank.specs.declared.outcome.Verdict.TheVariants.{Chain, Functional}
 use Rattle.mod2_rank.proofs.Examples.{annulus_one_left_twist_outcome, annulus_one_left_twist_rank}
 use Rattle.witness_check.specs.Belonging.{BelongsTo, IsFirstDrawing}
-use Rattle.witness_check.specs.Checked.{checked, nonzero, valid}
+use Rattle.witness_check.specs.declared.checked.Answer.TheVariants.{Nonzero as nonzero, Zero as zero_answer}
+use Rattle.witness_check.specs.declared.checked.Checked.TheVariants.{Valid as valid}
+use Rattle.witness_check.specs.Checked.{checked}
 use Rattle.witness_check.specs.Grammar.{parsed, says}
 use Rattle.witness_check.specs.Line.{line, lines, listed}
-use Rattle.witness_check.specs.OpenBook.{OpenBook, joined_surface, words_on}
+use Rattle.witness_check.specs.OpenBook.{IsOpenBook, OpenBook, joined_surface, words_on}
 use Rattle.witness_check.specs.Text.{certificate_text}
 use Rattle.witness_check.specs.declared.certificate.Certificate.{Certificate}
+use Rattle.witness_check.proofs.BelongsValid.{belonging_valid}
+use Rattle.witness_check.proofs.FitsLaw.{fits_says}
 use Rattle.witness_check.proofs.TextLaws.{printed_parses}
+use Rattle.witness_check.proofs.ValidLaw.{kept_shows}
 
 -- some lines, each with its line feed
 abbrev text_of_lines : List (List ℕ) → List ℕ
@@ -142,3 +147,10 @@ left_annulus_is_zero = record {
   concludes = record { outcome = annulus_one_left_twist_outcome; rank_is = annulus_one_left_twist_rank };
   homology = refl;
 }
+
+-- its lines write an open book, which is the one, so its text is valid
+left_annulus_book : IsOpenBook left_annulus
+left_annulus_book = (kept_shows zero_annulus (fits_says zero_annulus refl) refl).book
+
+left_annulus_valid : checked (certificate_text zero_annulus) ≡ valid zero_answer
+left_annulus_valid = belonging_valid left_annulus zero_annulus left_annulus_book left_annulus_is_zero

@@ -1,22 +1,54 @@
 mod Agreeing
 pub mod AnswerLaw
 pub mod BadLaw
+mod ByWords
 pub mod CheckLaws
-mod CheckedVerdict
+pub mod BelongsFits
+pub mod BelongsValid
+mod BookLines
+mod CurveLines
+mod ContactPoints
 mod Cutting
+mod DrawingLines
 pub mod Examples
+mod FinalLines
+mod FingerLines
+mod EachLine
+mod FirstFaults
 pub mod FitsLaw
 mod Joined
 mod Kept
+mod KeptBook
 pub mod Laws
+mod LastRules
 mod LineLaws
+mod NarrowPages
+mod LineReaders
+mod LineWords
+mod NumberWords
 mod Numbered
+mod OutcomeLines
+mod LinesTaken
+mod Loops
+mod ParseLaw
+mod Passed
 mod Prefixes
+mod PolygonLines
 pub mod PrintedLaw
+mod Reading
 mod Rows
 pub mod RulesAgree
+mod SameLists
 mod Sections
 mod Sequences
+mod SmallNumbers
+mod SurfaceLaw
+mod StrandLines
+mod SignedWords
 pub mod TextLaws
 pub mod TorusExamples
+pub mod ValidLaw
+mod SlideLines
+mod TwistLines
 mod WordLaws
+mod WordReaders

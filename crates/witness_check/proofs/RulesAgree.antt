@@ -20,8 +20,8 @@ use Rattle.witness_check.specs.Lines.{basis_line, contact_line, counted, curve_l
 use Rattle.witness_check.specs.OpenBook.{arcs, seam_names}
 use Rattle.witness_check.specs.Written.{first_drawing, last_drawing, last_words, polygon, slid_by, words_by}
 use Rattle.mod2_rank.specs.PivotRules.{reducers}
-use Rattle.witness_check.specs.PivotLines.{next_column, pivot_line_passes}
-use Rattle.witness_check.specs.Reason.{page, limit, curve, slide, twist, basis as basis_reason, word, drawing, finger, final, nice, pivot}
+use Rattle.mod2_rank.specs.PivotLines.{next_column, pivot_line_passes}
+use Rattle.witness_check.specs.declared.checked.Reason.TheVariants.{Page as page, Limit as limit, Curve as curve, Slide as slide, Twist as twist, Basis as basis_reason, Word as word, Drawing as drawing, Finger as finger, Final as final, Nice as nice, Pivot as pivot}
 use Rattle.witness_check.specs.Rules.{Rule, contact_rules, curve_rules, drawing_rules, each, final_rules, finger_rules, generator_rules, homology_rules, is_power, last_columns, line_rules, outcome_rules, pivot_rules, polygon_count, polygon_rules, rank_rules, rule, same_exits, same_names, slide_rules, strand_rules, twist_rules, verdict_rules}
 use Rattle.witness_check.specs.Splitting.{is_blank}
 use Rattle.witness_check.specs.Grammar.{Drawn, Outcome, Parts, certificate_form, certificate_lines, certificate_of, drawn_form, fits, outcome_form, parts_form, parts_of}

@@ -2,9 +2,14 @@
 use Rattle.std.proofs.Common.{◌≡◌, ℕ, ◌-◌, List, [], ◌∷◌, ◌++◌, codes, drop, refl, take}
 use Rattle.std.specs.List.{flat_map}
 use Rattle.std.specs.Fmt.{digits}
-use Rattle.witness_check.specs.Checked.{Checked, bad, checked, nonzero, valid}
+use Rattle.witness_check.specs.declared.checked.Answer.TheVariants.{Nonzero as nonzero}
+use Rattle.witness_check.specs.declared.checked.Checked.{Checked}
+use Rattle.witness_check.specs.declared.checked.Checked.TheVariants.{Bad as bad, Valid as valid}
+use Rattle.witness_check.specs.Checked.{checked}
 use Rattle.witness_check.specs.Line.{line}
-use Rattle.witness_check.specs.Reason.{form, page, limit, curve, twist, basis, word, drawing, final, nice, generators, contact, pivot, rank, homology, verdict}
+use Rattle.witness_check.specs.Meaning.{Certifies}
+use Rattle.witness_check.specs.declared.checked.Reason.TheVariants.{Form as form, Page as page, Limit as limit, Curve as curve, Twist as twist, Basis as basis, Word as word, Drawing as drawing, Final as final, Nice as nice, Generators as generators, Contact as contact, Pivot as pivot, Rank as rank, Homology as homology, Verdict as verdict}
+use Rattle.witness_check.proofs.ValidLaw.{valid_certifies}
 
 -- the text of some lines, checked
 abbrev check_lines : List (List ℕ) → Checked
@@ -30,6 +35,10 @@ torus =
 torus_valid : check_lines (torus) ≡ valid nonzero
 unfolding line digits
 torus_valid = refl
+
+-- so it certifies that the contact class of the open book that it writes isn't zero
+torus_certified : Certifies (flat_map (λ l. l ++ 10 ∷ []) torus) nonzero
+torus_certified = valid_certifies (flat_map (λ l. l ++ 10 ∷ []) torus) nonzero torus_valid
 
 label_three_times : check_lines (with_line 3 (codes "polygon A B A A") torus) ≡ bad 3 page
 unfolding line digits

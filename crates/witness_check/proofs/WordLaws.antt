@@ -127,7 +127,7 @@ exit_free e h =
     let (p, q) = and_parts (is_number e.side) (is_number e.place) h in
     free_append is_blank (decimal e.side) (46 ∷ decimal e.place) (number_free e.side p) (refl, number_free e.place q)
 
-bit_number : (n : ℕ) → leb n 1 ≡ true → is_number n ≡ true
+pub bit_number : (n : ℕ) → leb n 1 ≡ true → is_number n ≡ true
 bit_number n h = let l : n ≤ 1 = leb-true n 1 h in le-leb n 4294967295 (omega (arith, l))
 
 pub cross_back : (c : Cross) → is_cross c ≡ true → cross_of (cross_text c) ≡ c

@@ -1,27 +1,24 @@
 -- Whether a text is a valid certificate, or else its first bad line with the reason.
-use Rattle.std.specs.Prelude.{◌≡◌, ℕ, suc, Bool, true, not, List, [], ◌∷◌, find, slice_index_or, take, Option, None, Some}
+use Rattle.std.specs.Prelude.{◌≡◌, ℕ, suc, Bool, true, not, List, [], ◌∷◌, find, slice_index_or, take, Option, None, Some, option_map}
 use Rattle.std.specs.List.{list_all}
 use Rattle.mod2_rank.specs.declared.outcome.Verdict.{Verdict}
 use Rattle.mod2_rank.specs.declared.outcome.Verdict.TheVariants.{Chain, Functional}
 use Rattle.witness_check.specs.declared.certificate.Certificate.{Certificate}
-use Rattle.witness_check.specs.Reason.{Reason, form}
+use Rattle.witness_check.specs.declared.checked.Reason.{Reason}
+use Rattle.witness_check.specs.declared.checked.Reason.TheVariants.{Form as form}
+use Rattle.witness_check.specs.declared.checked.Answer.{Answer}
+use Rattle.witness_check.specs.declared.checked.Answer.TheVariants.{Zero as zero, Nonzero as nonzero}
+use Rattle.witness_check.specs.declared.checked.Checked.{Checked}
+use Rattle.witness_check.specs.declared.checked.Checked.TheVariants.{Bad as bad, Valid as valid}
+use Rattle.witness_check.specs.declared.fault.Fault.{Fault}
 use Rattle.witness_check.specs.Rules.{Rule, line_rules}
 use Rattle.witness_check.specs.Grammar.{BeginsAs, BreaksAfter, Said, breaks, fits, parsed, says}
 use Rattle.witness_check.specs.Text.{certificate_text}
-
--- the answer of a certificate
-pub data Answer : Type 0 where
-  zero nonzero : Answer
 
 -- the answer that a verdict gives
 abbrev pub answer_of : Verdict → Answer
 answer_of (Chain columns) = zero
 answer_of (Functional rows) = nonzero
-
--- valid, or bad at a line for a reason
-pub data Checked : Type 0 where
-  valid : Answer → Checked
-  bad : ℕ → Reason → Checked
 
 -- a bad line before what else is said
 abbrev pub bad_line : ℕ → Checked → Option Rule → Checked
@@ -32,6 +29,18 @@ bad_line number rest (Some broken) = bad number broken.reason
 abbrev pub first_bad : ℕ → List (List Rule) → Checked → Checked
 first_bad number [] good = good
 first_bad number (rules ∷ lines) good = bad_line number (first_bad (suc number) lines good) (find (λ r. not r.keeps) rules)
+
+-- the first of some lines, by the rules of each, with a rule that isn't kept, counted from 0, and its first such rule
+abbrev pub one_later : Fault → Fault
+one_later fault = record { at = suc fault.at; reason = fault.reason }
+
+abbrev pub fault_or : Option Fault → Option Rule → Option Fault
+fault_or later None = option_map one_later later
+fault_or later (Some broken) = Some (record { at = 0; reason = broken.reason })
+
+abbrev pub first_fault : List (List Rule) → Option Fault
+first_fault [] = None
+first_fault (rules ∷ lines) = fault_or (first_fault lines) (find (λ r. not r.keeps) rules)
 
 -- what is said of a text: the lines before the first one that lacks its form come first
 abbrev pub judged : Said → Checked

@@ -68,25 +68,28 @@ parts_of c = (c.version, (c.polygons, (c.curves, (c.slides, (c.twists, (c.seams,
 
 -- the certificate of some fields
 abbrev pub certificate_of : Parts → Certificate
-certificate_of (version, (polygons, (curves, (slides, (twists, (seams, (basis, (strands, (fingers, (finals, (generators, ((contact, points), (pivots, (rank, (homology, (verdict, e)))))))))))))))) = record {
-  version = version;
-  polygons = polygons;
-  curves = curves;
-  slides = slides;
-  twists = twists;
-  seams = seams;
-  basis = basis;
-  strands = strands;
-  fingers = fingers;
-  finals = finals;
-  generators = generators;
-  contact = contact;
-  points = points;
-  pivots = pivots;
-  rank = rank;
-  homology = homology;
-  verdict = verdict;
-}
+certificate_of p =
+    let drawn : Drawn = p.1.1.1.1.1.1.1 in
+    let outcome : Outcome = drawn.1.1.1.1.1 in
+    record {
+      version = p.0;
+      polygons = p.1.0;
+      curves = p.1.1.0;
+      slides = p.1.1.1.0;
+      twists = p.1.1.1.1.0;
+      seams = p.1.1.1.1.1.0;
+      basis = p.1.1.1.1.1.1.0;
+      strands = drawn.0;
+      fingers = drawn.1.0;
+      finals = drawn.1.1.0;
+      generators = drawn.1.1.1.0;
+      contact = drawn.1.1.1.1.0.0;
+      points = drawn.1.1.1.1.0.1;
+      pivots = outcome.0;
+      rank = outcome.1.0;
+      homology = outcome.1.1.0;
+      verdict = outcome.1.1.1.0;
+    }
 
 -- the form of a certificate
 abbrev pub certificate_form : Section Certificate

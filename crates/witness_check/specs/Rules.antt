@@ -21,9 +21,10 @@ use Rattle.curve_paths.specs.declared.named.NamedTwist.{NamedTwist}
 use Rattle.witness_check.specs.OpenBook.{arcs, curve_names, seam_names}
 use Rattle.witness_check.specs.Written.{drawing_after, first_drawing, last_drawing, last_words, own_book, polygon, slid_by, words_by}
 use Rattle.mod2_rank.specs.PivotRules.{reducers}
-use Rattle.witness_check.specs.PivotLines.{next_column, pivot_line_passes, rank_line_passes, verdict_line_passes}
+use Rattle.mod2_rank.specs.PivotLines.{next_column, pivot_line_passes, rank_line_passes, verdict_line_passes}
 use Rattle.mod2_rank.specs.declared.outcome.Pivot.{Pivot}
-use Rattle.witness_check.specs.Reason.{Reason, page, limit, curve, slide, twist, basis, word, drawing, finger, final, nice, generators, contact, pivot, rank, homology, verdict}
+use Rattle.witness_check.specs.declared.checked.Reason.{Reason}
+use Rattle.witness_check.specs.declared.checked.Reason.TheVariants.{Page as page, Limit as limit, Curve as curve, Slide as slide, Twist as twist, Basis as basis, Word as word, Drawing as drawing, Finger as finger, Final as final, Nice as nice, Generators as generators, Contact as contact, Pivot as pivot, Rank as rank, Homology as homology, Verdict as verdict}
 
 -- a rule of a line: its reason, and whether it is kept
 pub record Rule : Type 0 where
