@@ -12,7 +12,7 @@ use Rattle.obd_cli.specs.Opened.{open_book, paths_of}
 use Rattle.obd_cli.specs.Words.{book_words}
 
 -- the curves by name and crossings have the book's names
-names_same : (curves : List NamedCurve) → map (λ (path : NamedPath). path.name) (paths_of curves) ≡ map (λ (curve : NamedCurve). curve.name) curves
+pub names_same : (curves : List NamedCurve) → map (λ (path : NamedPath). path.name) (paths_of curves) ≡ map (λ (curve : NamedCurve). curve.name) curves
 names_same [] = refl
 names_same (curve ∷ curves) = ap (λ names. curve.name ∷ names) (names_same curves)
 

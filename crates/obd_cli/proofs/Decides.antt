@@ -8,6 +8,7 @@ use Rattle.obd_doc.specs.Document.{book_read, refusal_of}
 use Rattle.obd_doc.specs.declared.book.Book.{Book}
 use Rattle.obd_doc.specs.declared.refusal.DocRefusal.{DocRefusal}
 use Rattle.obd_cli.proofs.OverLimit.{words_budget, words_limited, words_within}
+use Rattle.obd_cli.proofs.ReadOpens.{certificate_valid}
 use Rattle.obd_cli.proofs.Stops.{words_answered, words_done, words_no_usage}
 use Rattle.obd_cli.specs.Run.{AnswersDoc, AnswersSurface, Finished, HasBookStatus, HasReadStatus, HasStatus, IsFault, Owes, Told, has_text, most_bytes, page_answer}
 use Rattle.handle_slide.specs.declared.refusal.RefusedSlide.{RefusedSlide}
@@ -53,6 +54,7 @@ finished command.Decide bytes left now_left written now_written book s answer ga
       read = read;
       certificate = certifies.certificate;
       belongs = certifies.belongs;
+      valid = certificate_valid bytes book certifies.certificate read certifies.belongs;
       wrote = subst (Appends written now_written) certifies.text wrote;
     }
 finished command.Page bytes left now_left written now_written book s answer gave ended read is_surface is done wrote =

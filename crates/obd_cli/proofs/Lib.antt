@@ -10,6 +10,7 @@ mod Limits
 mod Moved
 mod Named
 mod OverLimit
+pub mod ReadOpens
 mod Stops
 mod Surfaces
 mod Within

@@ -21,9 +21,11 @@ use Rattle.obd_doc.specs.declared.limits.Limits.{Limits}
 use Rattle.obd_doc.specs.declared.refusal.DocRefusal.{DocRefusal}
 use Rattle.obd_cli.specs.Steps.{IsCertificateOf, IsOverBudget, IsOverLimit, last_of}
 use Rattle.obd_cli.specs.Refused.{budget_line, doc_line, limit_line, refused_line, slide_line}
+use Rattle.witness_check.specs.Checked.{answer_of, checked}
 use Rattle.witness_check.specs.Text.{certificate_text}
 use Rattle.obd_cli.specs.Words.{book_words, long_line, words_text}
 use Rattle.witness_check.specs.declared.certificate.Certificate.{Certificate}
+use Rattle.witness_check.specs.declared.checked.Checked.TheVariants.{Valid}
 use Rattle.obd_cli.specs.declared.status.Answer.{Answer}
 use Rattle.obd_cli.specs.declared.status.Command.{Command}
 use Rattle.obd_cli.specs.declared.status.Command.TheVariants as command
@@ -151,7 +153,8 @@ pub record CutShort (command : Option Command) (left now_left written now_writte
   pub owed : Owes command left now_left answer
   pub wrote : TookPrefix written now_written answer.text
 
--- the source was read to its end, and the text of a certificate that belongs to the book of its bytes was written
+-- the source was read to its end, and the text of a certificate that belongs to the book of its bytes was written, which a check
+-- finds valid, with the same answer
 pub record Decided (left now_left written now_written : Option (List ℕ)) : Type 0 where
   pub bytes : List ℕ
   pub gave : Consumes left now_left bytes
@@ -160,6 +163,7 @@ pub record Decided (left now_left written now_written : Option (List ℕ)) : Typ
   pub read : book_read bytes ≡ Some book
   pub certificate : Certificate
   pub belongs : IsCertificateOf book certificate
+  pub valid : checked (certificate_text certificate) ≡ Valid (answer_of certificate.verdict)
   pub wrote : Appends written now_written (certificate_text certificate)
 
 -- the source was read to its end, and the words of the book of its bytes were written

@@ -9,6 +9,7 @@ ghost use Rattle.obd_cli.specs.Steps.{AreDrawings, AreLastLines, ArePageLines, I
 
 use crate::complex::{Complex, complex_of};
 use crate::moves::{Moved, strands_of};
+use crate::refused::name_of;
 use crate::surface::Surface;
 use curve_paths::{NamedPath, NamedTwist, copied_path, page_names};
 use generator_list::Generators;
@@ -37,11 +38,7 @@ fn named_paths(alloc: Global, curves: &[NamedCurve]) -> Result<Items<NamedPath>,
 fn curve_name(alloc: Global, curves: &[NamedCurve], number: u32) -> Result<Name, NoMemory>
     ensures { IfOk result (λ name. name ≡ slice_index_or (map (λ curve. curve.name) curves.now) number []) }
 {
-    let number = number as usize;
-    if number >= curves.len() {
-        return Name::from_str(alloc, "");
-    }
-    Name::from_str(alloc, curves[number].name.as_str())
+    Name::from_str(alloc, name_of(curves, u64::from(number)))
 }
 
 // The twist word of a book by the names of the curves.

@@ -206,8 +206,8 @@ fn put_slide_crossings(text: &mut Text, slide: u64, curve: &str, count: u32) -> 
     )
 }
 
-// The name of a curve by its number, and no letter where there is none.
-fn name_of(curves: &[NamedCurve], number: u64) -> &str
+/// The name of a curve by its number, and no letter where there is none. Constant time.
+pub(crate) fn name_of(curves: &[NamedCurve], number: u64) -> &str
     ensures { result.now ≡ slice_index_or (map (λ curve. curve.name) curves.now) number [] }
 {
     match curves.get(number as usize) {

@@ -34,7 +34,7 @@ page_accepted : (refusal : Option PageRefusal) → first_of (option_map NoPage r
 page_accepted None none = refl
 page_accepted (Some refusal) none = absurd (let bad = none in cc)
 
-polygons_are_page : (d : Data) → first_of (value_rules d) ≡ None → IsPage (fields_of d).polygons
+pub polygons_are_page : (d : Data) → first_of (value_rules d) ≡ None → IsPage (fields_of d).polygons
 polygons_are_page d none =
     let f = fields_of d in
     let book : first_of (book_rules f) ≡ None = none_rest (field_rules d ++ count_rules f) (book_rules f) none in
@@ -64,14 +64,20 @@ book_is_one f page known = record {
     unknown_none (Some twist) none = absurd (let bad = none in cc)
 
 by_value : (value : Option Data) (size : ℕ) (book : Book) → (refusal : Option DocRefusal) → option_map_or (λ d. first_of (value_rules d)) value (Some (Json size)) ≡ refusal
-    → cond (is_none refusal) (option_map (λ d. book_of (fields_of d)) value) None ≡ Some book → IsBook book
-by_value (Some d) size book None none is = subst IsBook (same_Some _ _ is) (book_is_one (fields_of d) (polygons_are_page d none) (twists_name_curves d none))
+    → cond (is_none refusal) (option_map (λ d. book_of (fields_of d)) value) None ≡ Some book → (d : Data) × (first_of (value_rules d) ≡ None) × (book_of (fields_of d) ≡ book)
+by_value (Some d) size book None none is = (d, none, same_Some _ _ is)
 by_value None size book None none is = absurd (let bad = none in cc)
 by_value value size book (Some refusal) found is = absurd (let bad = is in cc)
 
+-- a book that was read is that of a value that breaks no rule
+pub read_from : (bytes : List ℕ) (book : Book) → book_read bytes ≡ Some book → (d : Data) × (first_of (value_rules d) ≡ None) × (book_of (fields_of d) ≡ book)
+read_from bytes book is = by_value (value_of bytes) (length bytes) book (refusal_of bytes) refl is
+
 -- each book that was read is one whose polygons are a page, whose curves are on it, and whose twists are about curves of the book
 pub read_is_book : (bytes : List ℕ) (book : Book) → book_read bytes ≡ Some book → IsBook book
-read_is_book bytes book is = by_value (value_of bytes) (length bytes) book (refusal_of bytes) refl is
+read_is_book bytes book is =
+    let (d, none, made) = read_from bytes book is in
+    subst IsBook made (book_is_one (fields_of d) (polygons_are_page d none) (twists_name_curves d none))
 
 -- a page of no more than one polygon has one
 pub one_polygon : (page : List (List Label)) → IsPage page → nat_lt 1 (length page) ≡ false → length page ≡ 1

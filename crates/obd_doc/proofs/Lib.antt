@@ -1,6 +1,5 @@
 mod Accepted
 mod BookRules
-mod Occurrences
 mod CurvesSoFar
 mod FirstNamed
 mod TwistsSoFar
@@ -10,4 +9,6 @@ mod Text
 pub mod Laws
 mod Few
 mod Parts
+pub mod ReadAccepted
+mod Said
 mod Sizes

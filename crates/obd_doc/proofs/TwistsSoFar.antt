@@ -30,7 +30,7 @@ module _ {X : Type 0} (p : X → Bool) where
   none_passes xs h = rw (at_end xs h, le-ltb (length xs) (length xs) (le_refl _)) refl
 
   -- where one passes it is before the end
-  before_end : (xs : List X) → list_any p xs ≡ true → position_or_len p xs < length xs
+  pub before_end : (xs : List X) → list_any p xs ≡ true → position_or_len p xs < length xs
   before_end [] h = absurd (false≢true h)
   before_end (x ∷ xs) h = elim (cases_Bool (p x)) [
     | inl passes ↦ rw passes (omega arith)

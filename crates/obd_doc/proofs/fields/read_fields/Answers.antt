@@ -4,7 +4,7 @@ use Rattle.serde_json.specs.View.{view}
 use Rattle.obd_doc.specs.Document.{curves, field_rules, fields_of, optional, polygons, shape_rules, slides, twists, version, wanted}
 use Rattle.obd_doc.specs.Kinds.{limits}
 use Rattle.obd_doc.specs.declared.refusal.FieldName.TheVariants as field
-use Rattle.obd_doc.proofs.Occurrences.{said_occurrences}
+use Rattle.obd_doc.proofs.Said.{said_occurrences}
 use Rattle.obd_doc.proofs.Rules.{given_on, fifth, fourth, seventh, sixth, third}
 use Rattle.obd_doc.proofs.fields.read_fields.Goals as goal
 
