@@ -40,6 +40,7 @@ mod Rows
 pub mod RulesAgree
 mod SameLists
 mod Sections
+mod Staged
 mod Sequences
 mod SmallNumbers
 mod SurfaceLaw

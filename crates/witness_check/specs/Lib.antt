@@ -3,6 +3,7 @@ pub mod Between
 pub mod BookRules
 pub mod Checked
 pub mod DrawingRules
+pub mod FieldsOn
 pub mod Forms
 pub mod Grammar
 pub mod LastDrawing
@@ -15,6 +16,7 @@ pub mod Passing
 pub mod Reading
 pub mod RowWords
 pub mod Rules
+pub mod RulesOn
 pub mod Splitting
 pub mod Stages
 pub mod Text

@@ -1,5 +1,5 @@
 -- A text that is read section by section, from its first line on.
-use Rattle.std.specs.Prelude.{◌≡◌, ℕ, suc, ◌+◌, ◌-◌, List, [], ◌∷◌, ◌++◌, length, take, Option, Some, None}
+use Rattle.std.specs.Prelude.{◌≡◌, ◌⊎◌, ℕ, suc, ◌+◌, ◌-◌, Bool, false, nat_le, ◌&&◌, List, [], ◌∷◌, ◌++◌, length, take, Option, Some, None}
 use Rattle.witness_check.specs.Forms.{Begun, LineForm, Section, blank_rows, both, broken, one, read_one, read_rows, rows, seen_as, whole}
 use Rattle.witness_check.specs.Lines.{number_line}
 use Rattle.witness_check.specs.declared.fault.Refusal.{Refusal}
@@ -7,6 +7,7 @@ use Rattle.witness_check.specs.declared.fault.Refusal.TheVariants.{Bad as badly,
 use Rattle.witness_check.specs.declared.certificate.Certificate.{Certificate}
 use Rattle.witness_check.specs.declared.checked.Checked.{Checked}
 use Rattle.witness_check.specs.declared.checked.Checked.TheVariants.{Bad as bad, Valid as valid}
+use Rattle.witness_check.specs.declared.checked.Reason.{Reason}
 use Rattle.witness_check.specs.declared.checked.Reason.TheVariants.{Form as form}
 use Rattle.witness_check.specs.Checked.{answer_of, checked, first_bad}
 use Rattle.witness_check.specs.Rules.{Rule}
@@ -46,6 +47,16 @@ pub record BreaksAt {A : Type 0} (section : Section A) (old : Lines) (line : ℕ
 abbrev pub Breaks : {A : Type 0} → Section A → Lines → Refusal → Type 0
 Breaks section old (badly line reason) = BreaksAt section old line × (reason ≡ form)
 Breaks section old no_memory = Unit {0}
+
+-- a number is in a range
+abbrev pub is_between : ℕ → ℕ → ℕ → Bool
+is_between least most n = nat_le least n && nat_le n most
+
+-- a line with a number lacks its form, or its number isn't in a range
+abbrev pub CountRefused : List ℕ → ℕ → ℕ → Reason → Lines → Lines → Refusal → Type 0
+CountRefused many least most reason old new refusal =
+    Breaks (one (number_line many)) old refusal
+    ⊎ ((n : ℕ) × SectionRead (one (number_line many)) old new n × (is_between least most n ≡ false) × (refusal ≡ badly (suc old.taken) reason))
 
 -- the lines are a section's, and further ones follow, of which this is the first; or else one of the section lacks its form
 pub data EndsEarly {A : Type 0} (section : Section A) (old : Lines) (line : ℕ) : Type 0 where

@@ -1,5 +1,7 @@
 // Rules that aren't kept.
-ghost use Rattle.std.specs.Prelude.{◌≡◌};
+ghost use Rattle.std.specs.Prelude.{◌≡◌, ◌+◌, ◌<◌, ◌^◌};
+ghost use Rattle.witness_check.specs.declared.fault.Fault.{Fault as Broken};
+ghost use Rattle.witness_check.specs.declared.fault.Refusal.TheVariants.{Bad as badly, NoMemory as no_memory};
 
 use crate::checked::Reason;
 use obd_base::NoMemory;
@@ -46,5 +48,20 @@ impl From<NoMemory> for Refusal {
 
     fn from(_: NoMemory) -> Self {
         Refusal::NoMemory
+    }
+}
+
+/// The refusal of a text, where the lines that were tried begin at this number. A text has fewer than 2^32 lines, so that the sum
+/// is a line's number.
+pub(crate) fn refusal_at(first: u32, stop: Stop) -> Refusal
+    ensures fault { (fault : Broken) → stop ≡ Stop.Fault fault → first + fault.at < 2 ^ 32 → result ≡ badly (first + fault.at) fault.reason }
+    ensures memory { stop ≡ Stop.NoMemory → result ≡ no_memory }
+{
+    match stop {
+        Stop::Fault(fault) => Refusal::Bad {
+            line: first.saturating_add(fault.at),
+            reason: fault.reason,
+        },
+        Stop::NoMemory => Refusal::NoMemory,
     }
 }

@@ -1,11 +1,11 @@
 // Lines and sections of a text, read one after another.
-ghost use Rattle.std.specs.Prelude.{◌≡◌, ◌≤◌, true, None, Some, IfErr, IfOk, OnOk};
+ghost use Rattle.std.specs.Prelude.{◌≡◌, ◌≤◌, ℕ, true, None, Some, IfErr, IfOk, OnOk};
 ghost use Rattle.witness_check.specs.declared.checked.Reason.TheVariants.{Form as form};
 ghost use Rattle.witness_check.specs.declared.fault.Refusal.TheVariants.{Bad as badly};
 ghost use Rattle.witness_check.specs.Forms.{one, rows};
 ghost use Rattle.witness_check.specs.Lines.{answer_line, basis_line, contact_line, end_line, homology_line, number_line, seams_line};
 ghost use Rattle.witness_check.specs.Words.{is_word};
-ghost use Rattle.witness_check.specs.Passing.{Breaks, LineRead, RowsRead, SectionRead, counted_rows};
+ghost use Rattle.witness_check.specs.Passing.{Breaks, CountRefused, LineRead, RowsRead, SectionRead, counted_rows, is_between};
 
 use crate::checked::Reason;
 use crate::entries::ContactLine;
@@ -95,6 +95,42 @@ pub(crate) fn next_number(lines: &mut Lines, kind: &str) -> Result<u32, Refusal>
     match lines.next() {
         Some(line) => said(read_number(kind, line), number),
         None => said(None, number),
+    }
+}
+
+// The next line, which tells how many further ones follow, where that is in a range; and otherwise it is refused for this reason.
+pub(crate) fn next_count(
+    lines: &mut Lines,
+    kind: &str,
+    least: u32,
+    most: u32,
+    reason: Reason,
+) -> Result<u32, Refusal>
+    requires { is_word kind.now ≡ true }
+    ensures read { IfOk result (SectionRead (one (number_line kind.now)) lines.old lines.new) }
+    ensures within { IfOk result (λ count. is_between least most count ≡ true) }
+    ensures refused { IfErr result (CountRefused kind.now least most reason lines.old lines.new) }
+{
+    let line = lines.number();
+    let count = next_number(lines, kind)?;
+    if least <= count && count <= most {
+        Ok(count)
+    } else {
+        Err(Refusal::Bad { line, reason })
+    }
+}
+
+// Nothing, where rows are all that were wanted, and otherwise the refusal of the line that lacks its form.
+pub(crate) fn all_read(breaks: Option<u32>) -> Result<(), Refusal>
+    ensures whole { OnOk result (breaks ≡ None) }
+    ensures broken { IfErr result (λ refusal. (line : ℕ) × (breaks ≡ Some line) × (refusal ≡ badly line form)) }
+{
+    match breaks {
+        None => Ok(()),
+        Some(line) => Err(Refusal::Bad {
+            line,
+            reason: Reason::Form,
+        }),
     }
 }
 
