@@ -5,6 +5,7 @@ mod ByWords
 pub mod CheckLaws
 pub mod BelongsFits
 pub mod BelongsValid
+mod Begins
 mod BookLines
 mod CurveLines
 mod ContactPoints

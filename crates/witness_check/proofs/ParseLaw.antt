@@ -17,7 +17,7 @@ use Rattle.witness_check.specs.Text.{certificate_text}
 use Rattle.witness_check.proofs.TextLaws.{breaks_after, parsed_printed}
 
 -- the text after the line of the version
-after_version : (text : List ℕ) (left : List (List ℕ)) (b : Begun PolygonsOn) → read_one version_line (lines_of text) ≡ whole 1 left → polygons_on.read left ≡ b
+pub after_version : (text : List ℕ) (left : List (List ℕ)) (b : Begun PolygonsOn) → read_one version_line (lines_of text) ≡ whole 1 left → polygons_on.read left ≡ b
     → parsed text ≡ said (begun_as certificate_of (after_first 1 1 b))
 after_version text left b h k =
     ap (λ r. said (begun_as certificate_of (read_both (one version_line) (λ version. polygons_on) r))) h ∙ ap (λ r. said (begun_as certificate_of (after_first 1 1 r))) k
