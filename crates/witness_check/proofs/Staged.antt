@@ -1,5 +1,5 @@
 -- Lines and sections of a text, passed one after another.
-use Rattle.std.proofs.Common.{◌≡◌, ℕ, zero, suc, ◌+◌, ◌-◌, ◌≤◌, ◌<◌, Bool, true, false, not, cond, find, List, [], ◌∷◌, ◌++◌, length, map, take, Option, Some, None, refl, sym, ◌∙◌, ap, ap₂, subst, arith, length-append}
+use Rattle.std.proofs.Common.{◌≡◌, ℕ, zero, suc, ◌+◌, ◌-◌, ◌≤◌, ◌<◌, Bool, true, false, not, ◌&&◌, leb, le-leb, inl, inr, cond, find, List, [], ◌∷◌, ◌++◌, length, map, take, Option, Some, None, refl, sym, ◌∙◌, ap, ap₂, subst, arith, length-append}
 use Rattle.std.specs.Prelude.{option_map}
 use Rattle.std.specs.List.{enumerate_from}
 use Rattle.witness_check.specs.declared.certificate.Certificate.{Certificate}
@@ -14,8 +14,8 @@ use Rattle.witness_check.specs.Between.{After, Refutes}
 use Rattle.witness_check.specs.Checked.{answer_of, bad_line, checked, fault_or, first_bad, first_broken, first_fault, one_later}
 use Rattle.witness_check.specs.Forms.{Begun, LineForm, Section, after_first, after_row, begun_as, blank_rows, both, broken, guess, has_form, one, read_both, read_one, read_rows, rows, whole, write_rows}
 use Rattle.witness_check.specs.Lines.{counted, number_line}
-use Rattle.witness_check.specs.Passing.{Breaks, BreaksAt, LineRead, Lines, Passes, RowsRead, SectionRead, judged_from}
-use Rattle.witness_check.specs.Rules.{Rule, each}
+use Rattle.witness_check.specs.Passing.{Breaks, BreaksAt, CountRefused, LineRead, Lines, Passes, RowsRead, SectionRead, is_between, judged_from}
+use Rattle.witness_check.specs.Rules.{Rule, each, rule}
 use Rattle.witness_check.proofs.Passed.{section_breaks, section_breaks_faulty, section_faulty, section_passes}
 use Rattle.witness_check.proofs.Prefixes.{take_past, take_within}
 use Rattle.witness_check.proofs.Reading.{length_written}
@@ -379,3 +379,25 @@ module _ {A B : Type 0} (many : List ℕ) (shape : LineForm A) (t : List A → S
       (ap (λ z. begun_as (λ p. p.1) (read_both (one (number_line many)) (λ m. rows (λ i. shape) m) z)) b.read)
       (λ c k e. omega (arith, none)) (λ c k e. ap (λ m. first_fault (take m (head c ∷ each (own c) (fields c).0))) none)
       ∙ ap₂ bad (sym b.line_is) (sym breaks.1)
+
+-- a number in a range from nothing on is bounded
+pub from_none : (most n : ℕ) → is_between 0 most n ≡ leb n most
+from_none most n = ap (λ b. b && leb n most) (le-leb 0 n (omega arith))
+
+-- The number's rule is that it is in a range.
+module _ {A B : Type 0} (many : List ℕ) (shape : LineForm A) (t : List A → Section B) (head : Certificate → List Rule) (own : Certificate → ℕ → A → List Rule) (rest : Certificate → List (List Rule))
+    (fields : Certificate → List A × B) (known : Certificate → Type 0) (text : List ℕ) (l0 : Lines) (least most : ℕ) (reason : Reason)
+    (ranged : (c : Certificate) → known c → head c ≡ rule reason (is_between least most (length (fields c).0)) ∷ [])
+    (after : After (both (counted many shape) t) (λ c. (head c ∷ each (own c) (fields c).0) ++ rest c) fields known text l0) where
+  -- it is
+  pub count_within : (l1 : Lines) (n : ℕ) → SectionRead (one (number_line many)) l0 l1 n → is_between least most n ≡ true
+      → After (both (rows (λ i. shape) n) t) (λ c. each (own c) (fields c).0 ++ rest c) fields known text l1
+  count_within l1 n read within = count_passed many shape t head own rest fields known text l0 after l1 n read
+      (λ c k e. ap first_broken (ranged c k ∙ ap (λ z. rule reason z ∷ []) (ap (is_between least most) e ∙ within)))
+
+  -- or isn't, or the line lacks its form
+  pub count_refuted : (l1 : Lines) (r : Refusal) → CountRefused many least most reason l0 l1 r → Refutes text r
+  count_refuted l1 r (inl breaks) = count_breaks many shape t head own rest fields known text l0 after r breaks
+  count_refuted l1 r (inr outside) =
+      subst (Refutes text) (sym outside.3) (count_fault many shape t head own rest fields known text l0 after l1 outside.0 (rule reason false) outside.1
+      (λ c k e. ap first_broken (ranged c k ∙ ap (λ z. rule reason z ∷ []) (ap (is_between least most) e ∙ outside.2))))
