@@ -17,6 +17,7 @@ mod FingerLines
 mod EachLine
 mod FirstFaults
 pub mod FitsLaw
+mod HandedOn
 mod Joined
 mod Kept
 mod KeptBook

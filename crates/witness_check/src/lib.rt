@@ -5,9 +5,12 @@
 #![tactic(auto)]
 
 mod basis_lines;
+mod book_stage;
 mod certificate;
 mod checked;
+mod checker;
 mod curve_lines;
+mod drawing_stage;
 mod entries;
 mod fault;
 mod final_lines;
@@ -15,6 +18,7 @@ mod finger_lines;
 mod generator_lines;
 mod line;
 mod lines;
+mod outcome_stage;
 mod page_lines;
 mod parsing;
 mod printed;
@@ -28,6 +32,7 @@ mod words;
 
 pub use certificate::Certificate;
 pub use checked::{Answer, Checked, Reason};
+pub use checker::check;
 pub use line::{Word, put_line, put_numbered, put_rows};
 pub use parsing::{ParseRefusal, parse};
 pub use printed::print;
