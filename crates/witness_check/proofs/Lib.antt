@@ -51,6 +51,7 @@ mod SignedWords
 pub mod TextLaws
 pub mod TorusExamples
 pub mod ValidLaw
+mod Settled
 mod SlideLines
 mod TwistLines
 mod WordLaws

@@ -17,6 +17,7 @@ pub mod Reading
 pub mod RowWords
 pub mod Rules
 pub mod RulesOn
+pub mod Settling
 pub mod Splitting
 pub mod Stages
 pub mod Text

@@ -23,6 +23,7 @@ mod page_lines;
 mod parsing;
 mod printed;
 mod row;
+mod settling;
 mod strand_lines;
 mod surface;
 mod taking;
