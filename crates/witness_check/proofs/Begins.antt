@@ -36,7 +36,7 @@ rules_joined c =
     let F : List (List Rule) = finger_count c ∷ each (finger_rules c) c.fingers in
     ap (λ (z : List (List Rule)). [] ∷ z) (parts_joined B C S T (drawing_rules c) (outcome_rules c)
     ∙ ap (λ (z : List (List Rule)). B ++ (C ++ (S ++ (T ++ (seams_rules c ∷ (basis_rules c ∷ z))))))
-      (drawn_joined (each (strand_rules c) c.strands) F (each (final_rules c) c.finals) (generator_rules c ∷ (contact_rules c ∷ [])) (outcome_rules c)))
+    (drawn_joined (each (strand_rules c) c.strands) F (each (final_rules c) c.finals) (generator_rules c ∷ (contact_rules c ∷ [])) (outcome_rules c)))
 
 -- a text that begins with the version is judged by what follows
 pub begins : (text : List ℕ) (lines : Lines) → read_one version_line (lines_of text) ≡ whole 1 lines.left → lines.taken ≡ 1 → AfterVersion text lines
@@ -45,7 +45,7 @@ begins text lines read taken = record {
   fields_are = λ b. refl;
   knows = λ b. tt;
   passes = ap judged (after_version text lines.left (polygons_on.read lines.left) read refl)
-    ∙ (judges (polygons_on.read lines.left) ∙ ap (λ n. judged_from n (λ b. certificate_of (1, b)) polygons_on polygons_on_rules (polygons_on.read lines.left)) (sym taken));
+      ∙ (judges (polygons_on.read lines.left) ∙ ap (λ n. judged_from n (λ b. certificate_of (1, b)) polygons_on polygons_on_rules (polygons_on.read lines.left)) (sym taken));
 }
   where
     numbered : (k : ℕ) (rules : List (List Rule)) → first_bad 2 rules (bad (suc (suc k)) form) ≡ first_bad 2 rules (bad (suc (1 + k)) form)

@@ -15,6 +15,7 @@ pub mod Examples
 mod FinalLines
 mod FingerLines
 mod EachLine
+mod FingersStage
 mod FirstFaults
 pub mod FitsLaw
 mod HandedOn

@@ -1,7 +1,8 @@
 -- Lines and sections of a text, passed one after another.
-use Rattle.std.proofs.Common.{◌≡◌, ℕ, zero, suc, ◌+◌, ◌-◌, ◌≤◌, ◌<◌, Bool, true, false, not, ◌&&◌, leb, le-leb, inl, inr, cond, find, List, [], ◌∷◌, ◌++◌, length, map, take, Option, Some, None, refl, sym, ◌∙◌, ap, ap₂, subst, arith, length-append}
+use Rattle.std.proofs.Common.{◌≡◌, ℕ, zero, suc, ◌+◌, ◌-◌, ◌≤◌, ◌<◌, Bool, true, false, not, ◌&&◌, leb, le-leb, leb-true, inl, inr, cond, find, List, [], ◌∷◌, ◌++◌, length, map, take, Option, Some, None, refl, sym, ◌∙◌, ap, ap₂, subst, arith, length-append}
 use Rattle.std.specs.Prelude.{option_map}
 use Rattle.std.specs.List.{enumerate_from}
+use Rattle.std.proofs.lemmas.Bool.{and_parts}
 use Rattle.witness_check.specs.declared.certificate.Certificate.{Certificate}
 use Rattle.witness_check.specs.declared.checked.Checked.{Checked}
 use Rattle.witness_check.specs.declared.checked.Checked.TheVariants.{Bad as bad, Valid as valid}
@@ -33,7 +34,7 @@ module _ {A B : Type 0} (s : Section A) (t : A → Section B) (own rest : Certif
     fields_are = λ b. ap (λ p. p.1) (after.fields_are (a, b));
     knows = λ b. knows (after.to (a, b)) (after.knows (a, b)) (first b);
     passes = section_passes text l0 after.to s t (λ c. own c ++ rest c) after.passes rest l1 a (λ b. own (after.to (a, b))) read.0 read.1 (λ b. refl)
-      (λ b. size (after.to (a, b)) (after.knows (a, b)) (first b)) (λ b. kept (after.to (a, b)) (after.knows (a, b)) (first b));
+        (λ b. size (after.to (a, b)) (after.knows (a, b)) (first b)) (λ b. kept (after.to (a, b)) (after.knows (a, b)) (first b));
   }
     where
       first : (b : B) → (fields (after.to (a, b))).0 ≡ a
@@ -155,6 +156,16 @@ broken_count {A = A} shape i (suc n) (l ∷ ls) xs m e = go (λ ys k q. broken_c
 pub rows_few : {A : Type 0} (shape : ℕ → LineForm A) (n : ℕ) (l0 l1 : Lines) (xs : List A) (breaks : Option ℕ) → RowsRead shape n l0 l1 xs breaks → length xs ≤ length l0.left
 rows_few shape n l0 l1 xs None read = let k = whole_count shape 0 n l0.left xs l1.left read.0 in omega (arith, k.1)
 rows_few shape n l0 l1 xs (Some line) read = (broken_count shape 0 n l0.left (xs ++ blank_rows shape (length xs) (n - length xs)) (length xs) read.0).2
+
+pub rows_at_most : {A : Type 0} (shape : ℕ → LineForm A) (n : ℕ) (l0 l1 : Lines) (xs : List A) (breaks : Option ℕ) (least most : ℕ) → RowsRead shape n l0 l1 xs breaks → is_between least most n ≡ true → length xs ≤ most
+rows_at_most shape n l0 l1 xs None least most read within =
+    let bound : n ≤ most = leb-true n most (and_parts (leb least n) (leb n most) within).1 in
+    let k = whole_count shape 0 n l0.left xs l1.left read.0 in
+    omega (arith, k.0, bound)
+rows_at_most shape n l0 l1 xs (Some line) least most read within =
+    let bound : n ≤ most = leb-true n most (and_parts (leb least n) (leb n most) within).1 in
+    let k = broken_count shape 0 n l0.left (xs ++ blank_rows shape (length xs) (n - length xs)) (length xs) read.0 in
+    omega (arith, k.1, bound)
 
 later_some : (found : Option Fault) (fault : Fault) → option_map one_later found ≡ Some fault → (g : Fault) × (found ≡ Some g) × (fault.at ≡ suc g.at)
 later_some None fault e = absurd cc
@@ -310,7 +321,7 @@ module _ {A B : Type 0} (many : List ℕ) (shape : LineForm A) (t : List A → S
             good = valid (answer_of (after.to (xs, b)).verdict);
             judged = at_first (whole xs left) e ∙ ap (λ z. judged_from l0.taken after.to all rules (after_first xs (length ((counted many shape).write xs)) z)) f;
             judged_later = sym (at_rows (whole xs left) e ∙ (ap (λ z. judged_from l1.taken after.to (both (rows (λ i. shape) n) t) later (after_first xs (length ((rows (λ i. shape) n).write xs)) z)) f
-              ∙ ap (λ i. first_bad (suc i) (later (after.to (xs, b))) (valid (answer_of (after.to (xs, b)).verdict))) (read.1 ∙ omega arith)));
+                ∙ ap (λ i. first_bad (suc i) (later (after.to (xs, b))) (valid (answer_of (after.to (xs, b)).verdict))) (read.1 ∙ omega arith)));
           }
           tail (whole b (l ∷ ls)) f =
               let k = length (write_rows (λ i. shape) 0 xs ++ (t xs).write b) in
@@ -322,7 +333,7 @@ module _ {A B : Type 0} (many : List ℕ) (shape : LineForm A) (t : List A → S
                 good = bad (suc (l0.taken + suc k)) form;
                 judged = at_first (whole xs left) e ∙ ap (λ z. judged_from l0.taken after.to all rules (after_first xs (length ((counted many shape).write xs)) z)) f;
                 judged_later = moved k (take k (later (after.to (xs, b))))
-                  ∙ sym (at_rows (whole xs left) e ∙ ap (λ z. judged_from l1.taken after.to (both (rows (λ i. shape) n) t) later (after_first xs (length ((rows (λ i. shape) n).write xs)) z)) f);
+                    ∙ sym (at_rows (whole xs left) e ∙ ap (λ z. judged_from l1.taken after.to (both (rows (λ i. shape) n) t) later (after_first xs (length ((rows (λ i. shape) n).write xs)) z)) f);
               }
           tail (broken b m) f =
               let k = length (write_rows (λ i. shape) 0 xs) + m in
@@ -334,7 +345,7 @@ module _ {A B : Type 0} (many : List ℕ) (shape : LineForm A) (t : List A → S
                 good = bad (suc (l0.taken + suc k)) form;
                 judged = at_first (whole xs left) e ∙ (ap (λ z. judged_from l0.taken after.to all rules (after_first xs (length ((counted many shape).write xs)) z)) f ∙ one_more k (rules (after.to (xs, b))) (omega arith));
                 judged_later = moved k (take k (later (after.to (xs, b))))
-                  ∙ sym (at_rows (whole xs left) e ∙ ap (λ z. judged_from l1.taken after.to (both (rows (λ i. shape) n) t) later (after_first xs (length ((rows (λ i. shape) n).write xs)) z)) f);
+                    ∙ sym (at_rows (whole xs left) e ∙ ap (λ z. judged_from l1.taken after.to (both (rows (λ i. shape) n) t) later (after_first xs (length ((rows (λ i. shape) n).write xs)) z)) f);
               }
       go (broken xs m) e =
           let c = after.to (xs, (t xs).blank) in

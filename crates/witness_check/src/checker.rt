@@ -40,12 +40,7 @@ fn decided(alloc: Global, lines: &mut Lines, drawn: &Counted) -> Result<Answer, 
     ensures refuted { IfErr result (λ refusal. (text : List ℕ) → AfterDrawing drawn.now.last.diagram (length drawn.now.generators) text lines.old → Refutes text refusal) }
 {
     let columns = columns_of_last(alloc, &drawn.last, &drawn.generators)?;
-    outcome_stage(
-        alloc,
-        lines,
-        columns.as_slice(),
-        drawn.generators.count(),
-    )
+    outcome_stage(alloc, lines, columns.as_slice(), drawn.generators.count())
 }
 
 // The answer of the lines behind that of the version.

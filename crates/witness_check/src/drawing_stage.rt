@@ -29,7 +29,12 @@ impl Drop for Counted {
     }
 }
 
-pub(crate) fn drawing_stage(alloc: Global, lines: &mut Lines, polygon: &Polygon, words: &[Items<SideNo>]) -> Result<Counted, Refusal>
+pub(crate) fn drawing_stage(
+    alloc: Global,
+    lines: &mut Lines,
+    polygon: &Polygon,
+    words: &[Items<SideNo>],
+) -> Result<Counted, Refusal>
     requires words { AreWords polygon.now words.now }
     ensures passed { IfOk result (λ made. (text : List ℕ) → AfterBook polygon.now words.now text lines.old → AfterDrawing made.last.diagram (length made.generators) text lines.new) }
     ensures last { IfOk result (λ made. IsLast made.last) }

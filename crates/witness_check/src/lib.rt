@@ -15,6 +15,7 @@ mod entries;
 mod fault;
 mod final_lines;
 mod finger_lines;
+mod fingers_stage;
 mod generator_lines;
 mod line;
 mod lines;

@@ -11,7 +11,12 @@ use crate::lines::Lines;
 use obd_base::Column;
 use std::alloc::Global;
 
-pub(crate) fn outcome_stage(alloc: Global, lines: &mut Lines, columns: &[Column], rows: u32) -> Result<Answer, Refusal>
+pub(crate) fn outcome_stage(
+    alloc: Global,
+    lines: &mut Lines,
+    columns: &[Column],
+    rows: u32,
+) -> Result<Answer, Refusal>
     requires some { 0 < rows }
     requires one_each { length columns.now ≡ rows }
     requires ascend { AllAscend rows (map (λ column. column.rows) columns.now) }
