@@ -32,12 +32,14 @@ mod LineWords
 mod NumberWords
 mod Numbered
 mod OutcomeLines
+mod OutcomeStages
 mod LinesTaken
 mod Loops
 mod ParseLaw
 mod Passed
 mod Prefixes
 mod PolygonLines
+mod PolygonsStage
 pub mod PrintedLaw
 mod Reading
 mod Rows

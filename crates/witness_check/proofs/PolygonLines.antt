@@ -1,7 +1,7 @@
 -- The rules of the polygon lines, of which the last alone has one.
-use Rattle.std.proofs.Common.{◌≡◌, ℕ, suc, ◌+◌, Bool, true, false, cond, eqb, List, [], ◌∷◌, ◌++◌, length, length-append, Some, None, refl, sym, ◌∙◌, ap, arith}
+use Rattle.std.proofs.Common.{◌≡◌, ℕ, suc, ◌+◌, ◌↔◌, Bool, true, false, cond, eqb, List, [], ◌∷◌, ◌++◌, length, length-append, Option, Some, None, refl, sym, ◌∙◌, ap, arith, inl, inr}
 use Rattle.std.specs.Option.{is_none}
-use Rattle.std.proofs.lemmas.Bool.{eq-eqb, ne_eqb}
+use Rattle.std.proofs.lemmas.Bool.{cases_Bool, eq-eqb, ne_eqb}
 use Rattle.page_surface.specs.Labels.{Label}
 use Rattle.page_surface.specs.Page.{refusal_of as page_refusal}
 use Rattle.witness_check.specs.declared.certificate.Certificate.{Certificate}
@@ -40,3 +40,10 @@ polygons_fault polygons n size wrong c are =
     (λ i e l. not_last i (length c.polygons) _ (λ (last : suc i ≡ length c.polygons). omega (arith, l, all, last)))
     (ap (λ b. first_broken (cond b (rule page kept ∷ []) [])) (eq-eqb (suc n) (length c.polygons) (sym all))
     ∙ broken_where page kept false (ap (λ ps. is_none (page_refusal ps)) are ∙ wrong) (rule page kept ∷ []) refl)
+
+-- polygons that are found to be a page are one
+pub page_found : {T : Type 0} (polygons : List (List Label)) (found : Option T) (it : T) → found ≡ Some it → ((found ≡ None) ↔ (is_none (page_refusal polygons) ≡ false)) → is_none (page_refusal polygons) ≡ true
+page_found polygons found it is none = elim (cases_Bool (is_none (page_refusal polygons))) [
+  | inl h ↦ h
+  | inr h ↦ absurd (let gone : found ≡ None = none.1 h in cc)
+]

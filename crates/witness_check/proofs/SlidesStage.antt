@@ -3,6 +3,7 @@ use Rattle.std.proofs.Common.{◌≡◌, ℕ, suc, ◌+◌, ◌<◌, ◌^◌, tr
 use Rattle.std.specs.Prelude.{Result, Ok, Err, IfErr, OnOk}
 use Rattle.std.specs.Result.{result_unwrap_or}
 use Rattle.page_surface.specs.Labels.{Label}
+use Rattle.curve_paths.specs.PathTables.{PagePath}
 use Rattle.curve_paths.specs.declared.named.NamedPath.{NamedPath}
 use Rattle.handle_slide.specs.declared.slid.Slid.{Slid}
 use Rattle.witness_check.specs.BookRules.{SlidesCome, SlidesLeave, on_page}
@@ -39,24 +40,24 @@ module _ (page : List (List Label)) (curves : List NamedPath) (text : List ℕ) 
   slides_uncounted = count_refuted (codes "slides") (number_line (codes "slide")) (λ xs. twists_on) slide_count slide_rules twists_on_rules slides_fields known text l0 0 64 limit ranged after
 
   module _ (l1 l2 : Lines) (n : ℕ) (xs : List ℕ) (breaks : Option ℕ) (counted : SectionRead (one (number_line (codes "slides"))) l0 l1 n) (within : is_between 0 64 n ≡ true)
-      (read : RowsRead (λ i. (number_line (codes "slide"))) n l1 l2 xs breaks) where
+      (read : RowsRead (λ i. (number_line (codes "slide"))) n l1 l2 xs breaks) (lent : List PagePath) (lends : on_page page curves ≡ lent) where
     passed : After (both (rows (λ i. (number_line (codes "slide"))) n) (λ xs. twists_on)) (λ c. each (slide_rules c) c.slides ++ twists_on_rules c) slides_fields known text l1
     passed = count_within (codes "slides") (number_line (codes "slide")) (λ xs. twists_on) slide_count slide_rules twists_on_rules slides_fields known text l0 0 64 limit ranged after l1 n counted within
 
     -- all keep their rules
-    pub slides_passed : (s : Slid) → breaks ≡ None → SlidesCome page (on_page page curves) xs None → SlidesLeave page (on_page page curves) xs s → AfterSlides page curves s text l2
+    pub slides_passed : (s : Slid) → breaks ≡ None → SlidesCome page lent xs None → SlidesLeave page lent xs s → AfterSlides page curves s text l2
     slides_passed s all come leave =
         settled_well (λ i. (number_line (codes "slide"))) n (λ xs. twists_on) slide_rules twists_on_rules slides_fields known text l1 passed l2 xs breaks (HasSurface page curves s) read all
-        (λ c k more behind e. come c more k.page_is (ap (on_page page) k.curves_are) e) (λ c k e. 
+        (λ c k more behind e. come c more k.page_is (ap (on_page page) k.curves_are ∙ lends) e) (λ c k e. 
         record {
           page_is = k.page_is;
           curves_are = k.curves_are;
-          surface_is = ap (λ slides. result_unwrap_or (slid_by c slides) (joined_surface (own_book c))) e ∙ ap (λ r. result_unwrap_or r (joined_surface (own_book c))) (leave c k.page_is (ap (on_page page) k.curves_are));
+          surface_is = ap (λ slides. result_unwrap_or (slid_by c slides) (joined_surface (own_book c))) e ∙ ap (λ r. result_unwrap_or r (joined_surface (own_book c))) (leave c k.page_is (ap (on_page page) k.curves_are ∙ lends));
         })
 
     -- or not
     pub slides_refuted : {T : Type 0} (first : ℕ) (tried : Result T Stop) (r : Refusal) → first ≡ suc l1.taken → l1.taken + length l1.left + 1 < 2 ^ 32
-        → OnOk tried (SlidesCome page (on_page page curves) xs None) → IfErr tried (λ stop. (fault : Fault) → stop ≡ stopped fault → SlidesCome page (on_page page curves) xs (Some fault)) → Settles first tried breaks r → Refutes text r
+        → OnOk tried (SlidesCome page lent xs None) → IfErr tried (λ stop. (fault : Fault) → stop ≡ stopped fault → SlidesCome page lent xs (Some fault)) → Settles first tried breaks r → Refutes text r
     slides_refuted first tried r at few kept ill is =
         settled_badly (λ i. (number_line (codes "slide"))) n (λ xs. twists_on) slide_rules twists_on_rules slides_fields known text l1 passed l2 xs first tried breaks r at few read
-        (λ made so c k more behind e. of_ok tried made so kept c more k.page_is (ap (on_page page) k.curves_are) e) (λ fault so c k more behind e. of_fault (λ f. SlidesCome page (on_page page curves) xs (Some f)) tried fault so ill c more k.page_is (ap (on_page page) k.curves_are) e) is
+        (λ made so c k more behind e. of_ok tried made so kept c more k.page_is (ap (on_page page) k.curves_are ∙ lends) e) (λ fault so c k more behind e. of_fault (λ f. SlidesCome page lent xs (Some f)) tried fault so ill c more k.page_is (ap (on_page page) k.curves_are ∙ lends) e) is

@@ -169,6 +169,16 @@ rows_at_most shape n l0 l1 xs (Some line) least most read within =
     let k = broken_count shape 0 n l0.left (xs ++ blank_rows shape (length xs) (n - length xs)) (length xs) read.0 in
     omega (arith, k.1, bound)
 
+pub rows_all : {A : Type 0} (shape : ℕ → LineForm A) (n : ℕ) (l0 l1 : Lines) (xs : List A) (breaks : Option ℕ) (least most : ℕ) → RowsRead shape n l0 l1 xs breaks → breaks ≡ None → is_between least most n ≡ true
+    → (least ≤ length xs) × (length xs ≤ most)
+rows_all shape n l0 l1 xs None least most read all within =
+    let bounds = and_parts (leb least n) (leb n most) within in
+    let low : least ≤ n = leb-true least n bounds.0 in
+    let high : n ≤ most = leb-true n most bounds.1 in
+    let k = whole_count shape 0 n l0.left xs l1.left read.0 in
+    (omega (arith, k.0, low), omega (arith, k.0, high))
+rows_all shape n l0 l1 xs (Some line) least most read all within = absurd cc
+
 later_some : (found : Option Fault) (fault : Fault) → option_map one_later found ≡ Some fault → (g : Fault) × (found ≡ Some g) × (fault.at ≡ suc g.at)
 later_some None fault e = absurd cc
 later_some (Some g) fault e = let h : one_later g ≡ fault = cc in (g, refl, sym (ap (λ (f : Fault). f.at) h))
@@ -430,3 +440,20 @@ rows_fitting shape law n l0 l1 xs (Some line) read =
     let more = blank_rows (λ j. shape) (length xs) (n - length xs) in
     let so = (rows_section (λ j. shape) n (λ j within. law)).begun l0.left (xs ++ more) (length xs) read.0 in
     fits_all shape 0 xs more (and_parts (eqb (length (xs ++ more)) n) (rows_fit (λ j. shape) 0 (xs ++ more)) so.0).1
+
+-- A line with one rule, whose test is known.
+module _ {A B : Type 0} (shape : LineForm A) (t : A → Section B) (own : Certificate → List Rule) (rest : Certificate → List (List Rule)) (fields : Certificate → A × B) (known : Certificate → Type 0)
+    (text : List ℕ) (l0 : Lines) (after : After (both (one shape) t) (λ c. (own c ∷ []) ++ rest c) fields known text l0) (l1 : Lines) (a : A) (read : SectionRead (one shape) l0 l1 a)
+    (reason : Reason) (kept : Bool) (tested : (c : Certificate) → known c → (fields c).0 ≡ a → own c ≡ rule reason kept ∷ []) where
+  pub rule_kept : (next : Certificate → Type 0) → kept ≡ true → ((c : Certificate) → known c → (fields c).0 ≡ a → next c) → After (t a) rest (λ c. (fields c).1) next text l1
+  rule_kept next so knows =
+      line_passed shape t own rest fields known text l0 after l1 a next read
+      (λ c k e. ap (λ rules. first_fault (rules ∷ [])) (tested c k e) ∙ ap (λ b. first_fault ((rule reason b ∷ []) ∷ [])) so) knows
+
+  pub rule_broken : (first : ℕ) (r : Refusal) → kept ≡ false → first ≡ suc l0.taken → r ≡ badly first reason → Refutes text r
+  rule_broken first r so at is =
+      let number : suc (l0.taken + 0) ≡ first = omega (arith, at) in
+      subst (Refutes text) (sym is)
+      (line_fault shape t own rest fields known text l0 after l1 a (record { at = 0; reason = reason }) read
+      (λ c k e. ap (λ rules. first_fault (rules ∷ [])) (tested c k e) ∙ ap (λ b. first_fault ((rule reason b ∷ []) ∷ [])) so)
+      ∙ ap (λ n. bad n reason) number)
