@@ -38,6 +38,8 @@ mod Loops
 mod ParseLaw
 mod Passed
 mod Prefixes
+mod PivotLines
+mod PivotsStage
 mod PolygonLines
 mod PolygonsStage
 pub mod PrintedLaw

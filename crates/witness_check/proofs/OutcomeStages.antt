@@ -1,5 +1,5 @@
 -- The lines from the rank to the end.
-use Rattle.std.proofs.Common.{◌≡◌, ℕ, ℤ, suc, ◌+◌, ◌*◌, ◌-ℤ◌, ◌&&◌, eqb, pos, int_eq, Bool, true, false, List, [], ◌∷◌, length, codes, refl, sym, ◌∙◌, ap, ap₂, arith, subst}
+use Rattle.std.proofs.Common.{◌≡◌, ℕ, ℤ, suc, ◌+◌, ◌*◌, ◌-ℤ◌, ◌&&◌, eqb, pos, int_eq, Bool, true, false, List, [], ◌∷◌, length, take, codes, refl, sym, ◌∙◌, ap, ap₂, arith, subst}
 use Rattle.mod2_rank.specs.PivotLines.{rank_line_passes, verdict_line_passes}
 use Rattle.mod2_rank.specs.declared.outcome.Pivot.{Pivot}
 use Rattle.mod2_rank.specs.declared.outcome.Verdict.{Verdict}
@@ -8,13 +8,13 @@ use Rattle.witness_check.specs.declared.checked.Answer.{Answer}
 use Rattle.witness_check.specs.declared.checked.Checked.TheVariants.{Bad as bad, Valid as valid}
 use Rattle.witness_check.specs.declared.checked.Reason.TheVariants.{Form as form, Homology as homology, Rank as rank_reason, Verdict as verdict}
 use Rattle.witness_check.specs.declared.fault.Refusal.{Refusal}
-use Rattle.witness_check.specs.declared.fault.Refusal.TheVariants.{Bad as badly}
+use Rattle.witness_check.specs.declared.fault.Refusal.TheVariants.{Bad as badly, NoMemory as no_memory}
 use Rattle.witness_check.specs.Between.{AfterHomology, AfterPivots, AfterRank, AfterVerdict, HasColumns, HasPivots, HasRank, Refutes}
 use Rattle.witness_check.specs.Checked.{answer_of, checked, first_bad}
 use Rattle.witness_check.specs.FieldsOn.{homology_fields, rank_fields, verdict_fields}
 use Rattle.witness_check.specs.Forms.{one, whole}
 use Rattle.witness_check.specs.Lines.{answer_line, end_line, homology_line, number_line}
-use Rattle.witness_check.specs.Passing.{Breaks, Lines, SectionRead, judged_from}
+use Rattle.witness_check.specs.Passing.{Breaks, BreaksAt, Lines, SectionRead, judged_from}
 use Rattle.witness_check.specs.Rules.{homology_rules, last_columns, rank_rules, rule, verdict_rules}
 use Rattle.witness_check.specs.RulesOn.{end_on_rules, homology_on_rules, verdict_on_rules}
 use Rattle.witness_check.specs.Stages.{homology_on, verdict_on}
@@ -88,3 +88,13 @@ module _ (answer : Answer) (text : List ℕ) (l0 : Lines) (after : AfterVerdict 
       let number : suc (l0.taken + 1) ≡ first = omega (arith, at, taken) in
       subst (Refutes text) (sym is)
       (at_end l1.left read.0 ∙ (ap (λ left. judged_from l0.taken after.to (one end_line) end_on_rules (whole tt left)) more ∙ ap (λ n. bad n form) number))
+
+  -- or it isn't there
+  pub end_unread : (r : Refusal) → Breaks (one end_line) l0 r → Refutes text r
+  end_unread no_memory breaks = tt
+  end_unread (badly line reason) breaks =
+      let b : BreaksAt (one end_line) l0 line = breaks.0 in
+      let none : b.count ≡ 0 = unread end_line l0.left b.value b.count b.read in
+      let number : suc (l0.taken + b.count) ≡ line = sym b.line_is in
+      after.passes ∙ (ap (judged_from l0.taken after.to (one end_line) end_on_rules) b.read
+      ∙ (ap (λ m. first_bad (suc l0.taken) (take m (end_on_rules (after.to b.value))) (bad (suc (l0.taken + b.count)) form)) none ∙ ap₂ bad number (sym breaks.1)))

@@ -73,7 +73,7 @@ module _ {A B : Type 0} (s : Section A) (t : A → Section B) (own rest : Certif
       (λ b. broke (after.to (a, b)) (after.knows (a, b)) (ap (λ p. p.0) (after.fields_are (a, b))))
 
 -- a line that isn't read is the first
-unread : {A : Type 0} (shape : LineForm A) (ls : List (List ℕ)) (a : A) (m : ℕ) → read_one shape ls ≡ broken a m → m ≡ 0
+pub unread : {A : Type 0} (shape : LineForm A) (ls : List (List ℕ)) (a : A) (m : ℕ) → read_one shape ls ≡ broken a m → m ≡ 0
 unread shape [] a m e = cc
 unread shape (l ∷ ls) a m e = go (has_form shape l) e
   where
