@@ -32,14 +32,11 @@ mod LineWords
 mod NumberWords
 mod Numbered
 mod OutcomeLines
-mod OutcomeStages
 mod LinesTaken
 mod Loops
 mod ParseLaw
 mod Passed
 mod Prefixes
-mod PivotLines
-mod PivotsStage
 mod PolygonLines
 mod PolygonsStage
 pub mod PrintedLaw

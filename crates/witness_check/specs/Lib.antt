@@ -13,7 +13,6 @@ pub mod Meaning
 pub mod OpenBook
 pub mod Parsing
 pub mod Passing
-pub mod PivotsCome
 pub mod Reading
 pub mod RowWords
 pub mod Rules
