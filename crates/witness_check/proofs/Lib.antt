@@ -48,6 +48,7 @@ mod Sequences
 mod SmallNumbers
 mod SurfaceLaw
 mod StrandLines
+mod StrandsStage
 mod SignedWords
 pub mod TextLaws
 pub mod TorusExamples

@@ -26,6 +26,7 @@ mod printed;
 mod row;
 mod settling;
 mod strand_lines;
+mod strands_stage;
 mod surface;
 mod taking;
 mod tokens;
