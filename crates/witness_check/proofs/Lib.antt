@@ -15,7 +15,9 @@ pub mod Examples
 mod FinalLines
 mod FingerLines
 mod EachLine
+mod FinalsStage
 mod FingersStage
+mod GeneratorsStage
 mod FirstFaults
 pub mod FitsLaw
 mod HandedOn
