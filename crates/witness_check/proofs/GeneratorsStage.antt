@@ -1,5 +1,5 @@
 -- The lines of the generators and of the contact generator.
-use Rattle.std.proofs.Common.{◌≡◌, ℕ, suc, ◌+◌, ◌≤◌, ◌<◌, ◌^◌, List, [], ◌∷◌, length, codes, Option, Some, None, refl, sym, ◌∙◌, ap, subst, arith}
+use Rattle.std.proofs.Common.{◌≡◌, ℕ, suc, ◌+◌, ◌≤◌, ◌<◌, ◌^◌, List, [], ◌∷◌, ◌++◌, length, codes, Option, Some, None, refl, sym, ◌∙◌, ap, subst, arith}
 use Rattle.std.specs.Prelude.{Result, Ok, Err, IfErr, OnOk}
 use Rattle.page_surface.specs.Drawing.{Drawing}
 use Rattle.page_surface.specs.Polygon.{arc_count}
@@ -109,7 +109,7 @@ module _ (d : Drawing) (count : ℕ) (text : List ℕ) (l0 : Lines) (after : Aft
   contact_breaks = line_breaks (contact_line (arc_count d.polygon)) last contact_rules pivots_on_rules contact_fields (HasGenerators d count) text l0 after
 
   module _ (l1 : Lines) (contact : ℕ) (points : List ℕ) (read : SectionRead (one (contact_line (arc_count d.polygon))) l0 l1 (contact, points)) where
-    told : (c : Certificate) → HasGenerators d count c → (c.contact, c.points) ≡ (contact, points) → HasContact d count contact points c
+    told : (c : Certificate) → HasGenerators d count c → ◌≡◌ {A = ℕ × List ℕ} (c.contact, c.points) (contact, points) → HasContact d count contact points c
     told c k e = record { last_is = k.last_is; count_is = k.count_is; contact_is = ap (λ p. p.0) e; points_are = ap (λ p. p.1) e }
 
     -- it keeps its rule
