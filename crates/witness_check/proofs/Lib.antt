@@ -16,7 +16,9 @@ pub mod Examples
 mod FinalLines
 mod FingerLines
 mod EachLine
+mod FinalsStage
 mod FingersStage
+mod GeneratorsStage
 mod FirstFaults
 pub mod FitsLaw
 mod HandedOn
@@ -50,6 +52,7 @@ mod Sequences
 mod SmallNumbers
 mod SurfaceLaw
 mod StrandLines
+mod StrandsStage
 mod SignedWords
 pub mod TextLaws
 pub mod TorusExamples

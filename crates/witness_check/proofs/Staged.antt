@@ -159,6 +159,9 @@ pub rows_few : {A : Type 0} (shape : ℕ → LineForm A) (n : ℕ) (l0 l1 : Line
 rows_few shape n l0 l1 xs None read = let k = whole_count shape 0 n l0.left xs l1.left read.0 in omega (arith, k.1)
 rows_few shape n l0 l1 xs (Some line) read = (broken_count shape 0 n l0.left (xs ++ blank_rows shape (length xs) (n - length xs)) (length xs) read.0).2
 
+pub rows_count : {A : Type 0} (shape : ℕ → LineForm A) (n : ℕ) (l0 l1 : Lines) (xs : List A) → RowsRead shape n l0 l1 xs None → length xs ≡ n
+rows_count shape n l0 l1 xs read = (whole_count shape 0 n l0.left xs l1.left read.0).0
+
 pub rows_at_most : {A : Type 0} (shape : ℕ → LineForm A) (n : ℕ) (l0 l1 : Lines) (xs : List A) (breaks : Option ℕ) (least most : ℕ) → RowsRead shape n l0 l1 xs breaks → is_between least most n ≡ true → length xs ≤ most
 rows_at_most shape n l0 l1 xs None least most read within =
     let bound : n ≤ most = leb-true n most (and_parts (leb least n) (leb n most) within).1 in
