@@ -6,6 +6,7 @@ pub mod CheckLaws
 pub mod BelongsFits
 pub mod BelongsValid
 mod Begins
+mod BasisStage
 mod BookLines
 mod CurveLines
 mod ContactPoints
@@ -55,5 +56,6 @@ pub mod ValidLaw
 mod Settled
 mod SlideLines
 mod TwistLines
+mod TwistsStage
 mod WordLaws
 mod WordReaders

@@ -5,6 +5,7 @@
 #![tactic(auto)]
 
 mod basis_lines;
+mod basis_stage;
 mod book_stage;
 mod certificate;
 mod checked;
@@ -30,6 +31,7 @@ mod surface;
 mod taking;
 mod tokens;
 mod twist_lines;
+mod twists_stage;
 mod words;
 
 pub use certificate::Certificate;
