@@ -10,6 +10,7 @@ mod BasisStage
 mod BookLines
 mod CurveLines
 mod ContactPoints
+mod CurvesStage
 mod Cutting
 mod DrawingLines
 pub mod Examples
@@ -55,6 +56,7 @@ pub mod TorusExamples
 pub mod ValidLaw
 mod Settled
 mod SlideLines
+mod SlidesStage
 mod TwistLines
 mod TwistsStage
 mod WordLaws

@@ -108,7 +108,7 @@ pub(crate) fn words_of(
     requires few { length twists.now ≤ 256 }
     requires curves { All (λ curve. IfSome curve (IsCurve surface.now.slid.polygon)) surface.now.slid.curves }
     ensures words { IfOk result (λ words. WordsAre surface.now.slid curves.now twists.now words) }
-    ensures kept_words { IfOk result (AreWords surface.now.slid.polygon) }
+    ensures of_strands { IfOk result (AreWords surface.now.slid.polygon) }
     ensures kept { OnOk result (TwistsCome surface.now.slid curves.now twists.now None) }
     ensures fault { IfErr result (λ stop. (fault : Broken) → stop ≡ Stop.Fault fault → TwistsCome surface.now.slid curves.now twists.now (Some fault)) }
 {
