@@ -1,5 +1,6 @@
 -- The lines of the seams and of the basis.
 use Rattle.std.proofs.Common.{◌≡◌, ℕ, suc, ◌+◌, ◌/◌, Bool, true, false, List, [], ◌∷◌, ◌++◌, length, Option, Some, None, refl, sym, ◌∙◌, ap, ap₂, subst, arith}
+use Rattle.std.specs.Prelude.{Result, Ok, Err, OnOk}
 use Rattle.mod2_rank.specs.Linear.{same_list}
 use Rattle.mod2_rank.proofs.Members.{same_list_true}
 use Rattle.page_surface.specs.Labels.{Label}
@@ -23,6 +24,15 @@ use Rattle.witness_check.specs.Stages.{basis_on}
 use Rattle.witness_check.specs.Written.{polygon}
 use Rattle.witness_check.proofs.SameLists.{arc_number}
 use Rattle.witness_check.proofs.Staged.{line_breaks, line_fault, line_passed}
+
+-- what is said of each good result that says nothing else
+pub on_good : {T E : Type 0} {P Q : Type 0} (result : Result T E) → OnOk result P → (P → Q) → OnOk result Q
+on_good (Ok a) p so = so p
+on_good (Err e) p so = tt
+
+-- what a test tells of a list that is lent
+pub lent_test : {A : Type 0} (test : A → Bool) (lent x : A) (told so : Bool) → lent ≡ x → told ≡ test lent → told ≡ so → test x ≡ so
+lent_test test lent x told so same tells is = ap test (sym same) ∙ (sym tells ∙ is)
 
 -- the first line after some, with a rule that it breaks
 first_line : (text : List ℕ) (taken line : ℕ) → line ≡ suc taken → checked text ≡ bad (suc (taken + 0)) basis → checked text ≡ bad line basis

@@ -8,6 +8,7 @@ pub mod BelongsValid
 mod Begins
 mod BasisStage
 mod BookLines
+mod BookStage
 mod CurveLines
 mod ContactPoints
 mod CurvesStage

@@ -58,3 +58,18 @@ pub(crate) fn basis_stage(
     let basis = next_basis(alloc, lines)?;
     held(line, has_basis(surface, basis.as_slice()))
 }
+
+/// Reads the lines of the seams and of the basis, and whether they are those of the surface. Linear in the lines, the names and the sides.
+pub(crate) fn joined_stage(
+    alloc: Global,
+    lines: &mut Lines,
+    page: &Page,
+    surface: &Surface,
+) -> Result<(), Refusal>
+    requires { surface.now.basis ≡ joined_page page.now }
+    ensures passed { OnOk result ((text : List ℕ) (words : List (List ℕ)) → AfterTwists page.now surface.now.slid.polygon words text lines.old → AfterBook surface.now.slid.polygon words text lines.new) }
+    ensures refuted { IfErr result (λ refusal. (text : List ℕ) (words : List (List ℕ)) → AfterTwists page.now surface.now.slid.polygon words text lines.old → Refutes text refusal) }
+{
+    seams_stage(alloc, lines, page, surface)?;
+    basis_stage(alloc, lines, surface)
+}

@@ -24,6 +24,7 @@ mod lines;
 mod outcome_stage;
 mod page_lines;
 mod parsing;
+mod polygons_stage;
 mod printed;
 mod row;
 mod settling;
