@@ -6,7 +6,9 @@ pub mod CheckLaws
 pub mod BelongsFits
 pub mod BelongsValid
 mod Begins
+mod BasisStage
 mod BookLines
+mod BookStage
 mod CurveLines
 mod ContactPoints
 mod CurvesStage

@@ -5,6 +5,7 @@
 #![tactic(auto)]
 
 mod basis_lines;
+mod basis_stage;
 mod book_stage;
 mod certificate;
 mod checked;

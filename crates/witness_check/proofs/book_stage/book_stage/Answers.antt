@@ -1,0 +1,8 @@
+use Rattle.witness_check.proofs.HandedOn.{err_on, ok_on}
+use Rattle.witness_check.proofs.book_stage.book_stage.Goals as goal
+
+pub returns-clause-passed : goal.returns-clause-passed
+returns-clause-passed c = ok_on c.curved_stage.result c.curved_stage.ensures.passed (λ book passed text after. passed text (c.in_ok-page.ensures.passed text after))
+
+pub returns-clause-refuted : goal.returns-clause-refuted
+returns-clause-refuted c = err_on c.curved_stage.result c.curved_stage.ensures.refuted (λ refusal refuted text after. refuted text (c.in_ok-page.ensures.passed text after))
