@@ -3,8 +3,7 @@ use Rattle.std.specs.Prelude.{◌&&◌, ℕ, List, [], ◌∷◌, pos, true, cod
 use Rattle.std.specs.Str.{bytes_eq}
 use Rattle.std.specs.Str.Parse.{digits_value, without_leading_plus}
 use Rattle.clap.specs.ValueTests.{is_numeral}
-use Rattle.clap.specs.Walk.{is_empty}
-use Rattle.clap.specs.Words.{App, Row, Rule, Shape, Text, fault_of, new_app, new_rule, one_of, subcommand_of, with_rule, with_subcommand}
+use Rattle.clap.specs.Words.{App, Kinds, Row, Rule, Shape, Text, fault_of, new_app, new_rule, one_of, subcommand_of, with_rule, with_subcommand}
 use Rattle.clap.specs.declared.builder.ArgAction.TheVariants.{Set}
 use Rattle.clap.specs.declared.builder.value_parser.ValueParser.TheVariants as parser
 use Rattle.obd_cli.specs.declared.status.Command.{Command}
@@ -57,6 +56,12 @@ named entered =
     if bytes_eq entered.0 (codes "check") then Some command.Check else
     if bytes_eq entered.0 (codes "sample") then sample_of entered.1 else None
 
--- the command that the words after the program's own name are: none where they have a fault, and otherwise the one that they name
+-- the command that was found, where there is no fault
+abbrev pub without_fault : Kinds → Option Command → Option Command
+without_fault [] found = found
+without_fault (kind ∷ kinds) found = None
+
+-- the command that the words after the program's own name are: none where clap finds a fault in them, and otherwise the one that
+-- they name
 unfoldable pub command_of : List Text → Option Command
-command_of words = if is_empty (fault_of obd words) then option_and_then named (subcommand_of obd words) else None
+command_of words = without_fault (fault_of obd words) (option_and_then named (subcommand_of obd words))

@@ -1,7 +1,7 @@
 // The words of a run, read as clap reads them.
 ghost use Rattle.std.specs.Prelude.{◌≡◌, ◌≢◌, [], map, string_bytes, option_and_then, false, IfOk, IfErr, IfNone, IfSome};
 ghost use Rattle.clap.specs.Words.{app_of, fault_of, found_of, kind_of, rows_of, rule_of, subcommand_of, subcommand_rows_of};
-ghost use Rattle.obd_cli.specs.CommandLine.{command_of, named, obd, sample_of, seed, twists};
+ghost use Rattle.obd_cli.specs.CommandLine.{command_of, named, number_of, obd, sample_of, seed, twists};
 
 use crate::status::Command;
 use clap::error::ErrorKind;
@@ -61,12 +61,19 @@ fn parsed<'a>(alloc: Global, words: &'a [String]) -> Result<ArgMatches<'a>, Erro
     command.try_get_matches_from(words)
 }
 
+// The number of the value of this name.
+fn number_of(values: &ArgMatches, name: &str) -> Option<u16>
+    ensures { result ≡ number_of name.now (rows_of (found_of values.now)) }
+{
+    values.get_one::<u16>(name)
+}
+
 // `sample` with its two numbers.
 fn sample_of(values: &ArgMatches) -> Option<Command>
     ensures { result ≡ sample_of (rows_of (found_of values.now)) }
 {
-    let seed = values.get_one::<u16>("SEED")?;
-    let twists = values.get_one::<u16>("TWISTS")?;
+    let seed = number_of(values, "SEED")?;
+    let twists = number_of(values, "TWISTS")?;
     Some(Command::Sample { seed, twists })
 }
 
@@ -92,7 +99,12 @@ pub(crate) fn command_of(alloc: Global, words: &[String]) -> Result<Option<Comma
 {
     match parsed(alloc, words) {
         Ok(matches) => Ok(named(&matches)),
-        Err(error) if error.kind() == ErrorKind::OutOfMemory => Err(NoMemory),
-        Err(_) => Ok(None),
+        Err(error) => {
+            if error.kind() == ErrorKind::OutOfMemory {
+                Err(NoMemory)
+            } else {
+                Ok(None)
+            }
+        }
     }
 }
