@@ -3,6 +3,11 @@ pub mod BookWords
 mod Built
 mod Certified
 mod Collected
+mod CommandEntered
+pub mod CommandLaws
+mod CommandReads
+mod CommandSample
+mod CommandValues
 mod Decides
 mod FirstDrawn
 mod LimitRead
