@@ -23,7 +23,7 @@ abbrev pub names : Names
 names = names_of line
 
 -- what a walk over words comes to
-abbrev faults_after : Walk → Kinds → Kinds
+abbrev pub faults_after : Walk → Kinds → Kinds
 faults_after end walking =
     or_else walking (or_else (entered_fault line end.stopped) (or_else (settle_fault rules line.top.args_override_self end.held)
     (or_else (defaults_fault (settled rules end.held).rows rules) (check_fault line.top (finished rules end.held) (is_some (entered line end.stopped))))))

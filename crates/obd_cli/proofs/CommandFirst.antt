@@ -1,0 +1,41 @@
+-- The first word decides: it is the name of a command, or there is none.
+use Rattle.std.proofs.Common.{◌≡◌, ◌∙◌, ◌⊎◌, ◌||◌, ℕ, Bool, true, false, fold, is_some, List, [], ◌∷◌, Option, Some, None, codes, refl, sym, subst, ap, ap₂, inl, inr}
+use Rattle.std.specs.Prelude.{if◌then◌else◌}
+use Rattle.std.specs.Str.{bytes_eq}
+use Rattle.clap.specs.Faults.{check_fault, defaults_fault, entered_fault, settle_fault, stray_fault, turn_fault, walk_fault}
+use Rattle.clap.specs.Kinds.{or_else}
+use Rattle.clap.specs.Simple.{entered}
+use Rattle.clap.specs.Walk.{Walk, arg_by_long, arg_by_short, finished, has_long, has_short, idle, nothing_held, settled, subcommand_met, walk, walk_from, walked}
+use Rattle.clap.specs.Words.{Kinds, Row, Rule, Shape, Text, fault_of}
+use Rattle.clap.specs.declared.error.kind.ErrorKind.TheVariants as kind
+use Rattle.obd_cli.proofs.CommandEntered.{faults_after, line, names, rules}
+use Rattle.obd_cli.proofs.CommandFlags.{Goes, HasHelpAlone, first_none, help, place, second_none, some_kind, turned}
+use Rattle.obd_cli.specs.CommandLine.{obd}
+
+-- a test finds help, or nothing
+pub help_or_none : (test : Bool) → ((if test then Some help else None) ≡ None) ⊎ ((if test then Some help else None) ≡ Some help)
+help_or_none true = inr refl
+help_or_none false = inl refl
+
+line_alone : HasHelpAlone rules
+line_alone = record { long = λ name. help_or_none (has_long help name); short = λ letter. help_or_none (has_short help letter) }
+
+-- after `--` no word has a place
+ends : (kinds : Kinds) (rest : List Text) → walk_fault line.top names (place [] None 1 true) rest ≡ [] → faults_after (fold (walked rules names) (place [] None 1 true) rest) kinds ≡ [] → ⊥
+unfolding defaults_fault walk_fault
+ends kinds [] walking none = some_kind kind.MissingSubcommand [] (second_none kinds (kind.MissingSubcommand ∷ []) none)
+ends kinds (word ∷ rest) walking none = some_kind kind.UnknownArgument (kind.InvalidSubcommand ∷ []) walking
+
+-- words of which the first names no command have a fault
+pub first_is_name : (word : Text) (rest : List Text) → subcommand_met names idle word ≡ None → fault_of obd (word ∷ rest) ≡ [] → ⊥
+unfolding walk_fault
+first_is_name word rest met none = go (turned line.top names line_alone [] None 1 word false met (first_none _ _ walking))
+  where
+    walking : walk_fault line.top names (walk_from nothing_held) (word ∷ rest) ≡ []
+    walking = first_none _ _ none
+
+    go : Goes line.top names line_alone [] None 1 word false (walked rules names (walk_from nothing_held) word) → ⊥
+    go (inl value) = some_kind kind.UnknownArgument (kind.InvalidSubcommand ∷ []) value.1
+    go (inr trailing) = ends (walk_fault line.top names (walk_from nothing_held) (word ∷ rest)) rest
+      (subst (λ w. walk_fault line.top names w rest ≡ []) trailing (second_none _ _ walking))
+      (subst (λ w. faults_after (fold (walked rules names) w rest) (walk_fault line.top names (walk_from nothing_held) (word ∷ rest)) ≡ []) trailing none)
