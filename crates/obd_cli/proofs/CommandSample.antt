@@ -20,14 +20,14 @@ use Rattle.obd_cli.specs.CommandLine.{command_of, named, number_in, sample_of}
 use Rattle.obd_cli.specs.declared.status.Command.{Command}
 use Rattle.obd_cli.specs.declared.status.Command.TheVariants as command
 
-abbrev seeds : ValueParser
+abbrev pub seeds : ValueParser
 seeds = parser.Signed (pos 0) (pos 65535)
 
-abbrev numbers : ValueParser
+abbrev pub numbers : ValueParser
 numbers = parser.Signed (pos 1) (pos 256)
 
 -- the row of a value that was read
-abbrev row : Text → Text → Row
+abbrev pub row : Text → Text → Row
 row name value = record { id = name; values = value ∷ []; count = None; source = Some CommandLine; reading = reading.WithoutMinus }
 
 -- the walk after so many values, of which the last one waits
