@@ -1,7 +1,7 @@
 -- What a type of 16 bits reads from a value is the number of the definition.
 use Rattle.std.proofs.Common.{◌≡◌, ◌∙◌, ◌&&◌, ◌^◌, ◌<◌, ℕ, Bool, true, false, List, [], ◌∷◌, length, Option, Some, None, refl, sym, ap, cond, true≢false}
 use Rattle.std.proofs.lemmas.Bool.{ltb-true, lt-ltb}
-use Rattle.std.specs.Prelude.{Ok, Err, Result, nat_lt, option_and_then, if◌then◌else◌}
+use Rattle.std.specs.Prelude.{⊤, Ok, Err, Result, nat_lt, option_and_then, if◌then◌else◌}
 use Rattle.std.specs.List.{list_all}
 use Rattle.std.specs.Char.{digit_value}
 use Rattle.std.specs.Str.Parse.{AllDigits, IsNumeral, ParsesUnsigned, digits_value, without_leading_plus}
@@ -47,6 +47,15 @@ read_is : (E : Type 0) (G : Text → Result ℕ E → Type 0) (text : Text) (fou
     → ReadsOne G text found → found ≡ number_in text
 read_is E G text (Some n) only read = let parsed = only text (Ok n) read in ap Some parsed.1 ∙ sym (small_number text parsed.0.0 parsed.0.1)
 read_is E G text None only read = sym (no_number text (only text (Err read.0) read.1))
+
+-- the definition's number is what such a type reads
+pub reads_number : (text : Text) → ReadsOne {T = ℕ} {E = ⊤} (λ text read. ParsesUnsigned 16 10 text read) text (number_in text)
+reads_number text = go (is_numeral (without_leading_plus text) && nat_lt (digits_value 10 (without_leading_plus text)) 65536) refl
+  where
+    go : (test : Bool) → (is_numeral (without_leading_plus text) && nat_lt (digits_value 10 (without_leading_plus text)) 65536) ≡ test
+        → ReadsOne {T = ℕ} {E = ⊤} (λ text read. ParsesUnsigned 16 10 text read) text (if test then Some (digits_value 10 (without_leading_plus text)) else None)
+    go true is = let parts = both _ _ is in ((test_numeral _ parts.0, ltb-true _ _ parts.1), refl)
+    go false is = (tt, λ small. let bad : true ≡ false = rw (numeral_test _ small.0, lt-ltb _ _ small.1) at is in true≢false bad)
 
 -- the number of the value of a name
 pub number_read : (E : Type 0) (G : Text → Result ℕ E → Type 0) (name : Text) (rows : List Row) (found : Option ℕ) → ((u : Text) (r : Result ℕ E) → G u r → ParsesUnsigned 16 10 u r)

@@ -1,6 +1,9 @@
 -- The words of `sample` that clap takes have two numbers in range.
 use Rattle.std.proofs.Common.{◌≡◌, ◌∙◌, ◌⊎◌, ◌||◌, ◌<◌, ◌≤◌, ℕ, Bool, true, false, fold, List, [], ◌∷◌, Option, Some, None, codes, refl, sym, subst, ap, ap₂, inl, inr, arith}
-use Rattle.std.specs.Prelude.{pos, if◌then◌else◌, option_and_then}
+use Rattle.std.specs.Prelude.{⊤, pos, if◌then◌else◌, option_and_then, option_map}
+use Rattle.std.specs.Str.Parse.{ParsesUnsigned}
+use Rattle.clap.proofs.CallerReads.{signed_reads}
+use Rattle.clap.proofs.ValueTestLemmas.{accepts-Accepts}
 use Rattle.clap.specs.Faults.{check_fault, defaults_fault, level_fault, settle_fault, turn_fault, walk_fault}
 use Rattle.clap.specs.Kinds.{or_else, value_kinds}
 use Rattle.clap.specs.Lexer.{without_minus}
@@ -9,11 +12,16 @@ use Rattle.clap.specs.ValueTests.{accepts}
 use Rattle.clap.specs.Walk.{Walk, finished, has_long, has_short, nothing_held, rows_after, settled, walk, walk_from, walked}
 use Rattle.clap.specs.Words.{Kinds, Row, Rule, Shape, Text, fault_of}
 use Rattle.clap.specs.declared.builder.value_parser.ValueParser.{ValueParser}
+use Rattle.clap.specs.declared.builder.value_parser.ValueParser.TheVariants as parser
 use Rattle.clap.specs.declared.error.kind.ErrorKind.TheVariants as kind
 use Rattle.obd_cli.proofs.CommandEntered.{sample_faults, sample_line, sample_rows}
 use Rattle.obd_cli.proofs.CommandFirst.{help_or_none}
 use Rattle.obd_cli.proofs.CommandFlags.{Goes, HasHelpAlone, first_none, help, place, second_none, some_kind, turned}
+use Rattle.obd_cli.proofs.CommandReads.{reads_number, taken_command}
 use Rattle.obd_cli.proofs.CommandSample.{numbers, row, seeds}
+use Rattle.obd_cli.specs.CommandLine.{command_of, named, number_in, obd}
+use Rattle.obd_cli.specs.declared.status.Command.{Command}
+use Rattle.obd_cli.specs.declared.status.Command.TheVariants as command
 
 sample_alone : HasHelpAlone sample_line.rules
 sample_alone = record { long = λ name. help_or_none (has_long help name); short = λ letter. help_or_none (has_short help letter) }
@@ -88,3 +96,82 @@ some_read (word ∷ rest) trailing none = go (turned sample_line [] sample_alone
     go (inl value) again = subst (λ w. ReadSome (ends_at w rest)) (sym value.0)
         (inr (seed_read word rest (trailing || false) (passes_after (with_seed word (trailing || false)) word (none_yet trailing) rest value.0 none)))
     go (inr is) again = subst (λ w. ReadSome (ends_at w rest)) (sym is) (again (passes_after (none_yet true) word (none_yet trailing) rest is none))
+
+-- ---- the end of the words
+
+abbrev settling : Walk → Kinds
+settling end = settle_fault sample_line.rules sample_line.args_override_self end.held
+
+abbrev checking : Walk → Kinds
+checking end = or_else (defaults_fault (settled sample_line.rules end.held).rows sample_line.rules) (check_fault sample_line (finished sample_line.rules end.held) false)
+
+-- two values that clap takes, and no more
+pub record TakesBoth (rest : List Text) : Type 0 where
+  pub seed : Text
+  pub twists : Text
+  pub rows : rows_after sample_line.rules [] rest ≡ row (codes "SEED") seed ∷ row (codes "TWISTS") twists ∷ []
+  pub seed_taken : accepts false seeds seed ≡ true
+  pub twists_taken : accepts false numbers twists ≡ true
+
+pub takes_both : (rest : List Text) → fault_of obd (codes "sample" ∷ rest) ≡ [] → TakesBoth rest
+unfolding defaults_fault
+takes_both rest none = go (some_read rest false walking) (second_none walks (or_else (settling end) (checking end)) level)
+  where
+    end : Walk
+    end = walk sample_line.rules [] nothing_held rest
+
+    walks : Kinds
+    walks = walk_fault sample_line [] (walk_from nothing_held) rest
+
+    level : or_else walks (or_else (settling end) (checking end)) ≡ []
+    level = sym (sample_faults rest) ∙ none
+
+    walking : walks ≡ []
+    walking = first_none walks (or_else (settling end) (checking end)) level
+
+    go : ReadSome end → or_else (settling end) (checking end) ≡ [] → TakesBoth rest
+    go (inl (trailing, is)) none = absurd (some_kind kind.MissingRequiredArgument [] (subst (λ end. or_else (settling end) (checking end) ≡ []) is none))
+    go (inr (inl (seed, trailing, is))) none =
+        let at = subst (λ end. or_else (settling end) (checking end) ≡ []) is none in
+        absurd (some_kind kind.MissingRequiredArgument [] (second_none (settling (with_seed seed trailing)) (checking (with_seed seed trailing)) at))
+    go (inr (inr (seed, twists, trailing, is, taken))) none =
+        let at = subst (λ end. or_else (settling end) (checking end) ≡ []) is none in
+        record {
+          seed = seed;
+          twists = twists;
+          rows = ap (λ end. finished sample_line.rules end.held) is;
+          seed_taken = taken;
+          twists_taken = taken_value numbers twists (first_none (settling (with_both seed twists trailing)) (checking (with_both seed twists trailing)) at);
+        }
+
+-- ---- the numbers
+
+number_taken : (least most : ℕ) (text : Text) → most < 65536 → accepts false (parser.Signed (pos least) (pos most)) text ≡ true
+    → (n : ℕ) × (number_in (without_minus text) ≡ Some n) × (least ≤ n) × (n ≤ most)
+number_taken least most text small taken =
+    signed_reads ⊤ (λ text read. ParsesUnsigned 16 10 text read) 16 least most text (number_in (without_minus text)) (reads_number (without_minus text)) (λ text read given. given) small
+    (accepts-Accepts false (parser.Signed (pos least) (pos most)) text taken)
+
+-- the command of two such values, with numbers in range
+pub record IsSampled (which : Option Command) : Type 0 where
+  pub seed : ℕ
+  pub twists : ℕ
+  pub is : which ≡ Some (command.Sample seed twists)
+  pub seed_most : seed < 65536
+  pub twists_least : 1 ≤ twists
+  pub twists_most : twists ≤ 256
+
+pub sampled : (rest : List Text) → fault_of obd (codes "sample" ∷ rest) ≡ [] → IsSampled (command_of (codes "sample" ∷ rest))
+sampled rest none =
+    let both = takes_both rest none in
+    let (seed, seed_is, _, seed_most) = number_taken 0 65535 both.seed (omega arith) both.seed_taken in
+    let (twists, twists_is, twists_least, twists_most) = number_taken 1 256 both.twists (omega arith) both.twists_taken in
+    record {
+      seed = seed;
+      twists = twists;
+      is = taken_command (codes "sample" ∷ rest) none ∙ (ap (option_and_then named) (sample_rows rest ∙ ap (λ rows. Some (codes "sample", rows)) both.rows)
+          ∙ ap₂ (λ (seed twists : Option ℕ). option_and_then (λ seed. option_map (command.Sample seed) twists) seed) seed_is twists_is);
+      seed_most = omega arith;
+      twists_least = twists_least;
+      twists_most = twists_most;
+    }
