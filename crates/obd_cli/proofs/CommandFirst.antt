@@ -2,6 +2,7 @@
 use Rattle.std.proofs.Common.{◌≡◌, ◌∙◌, ◌⊎◌, ◌||◌, ℕ, Bool, true, false, fold, is_some, List, [], ◌∷◌, Option, Some, None, codes, refl, sym, subst, ap, ap₂, inl, inr}
 use Rattle.std.specs.Prelude.{if◌then◌else◌}
 use Rattle.std.specs.Str.{bytes_eq}
+use Rattle.std.proofs.lemmas.Slice.Eq.{bytes_eq-Decides}
 use Rattle.clap.specs.Faults.{check_fault, defaults_fault, entered_fault, settle_fault, stray_fault, turn_fault, walk_fault}
 use Rattle.clap.specs.Kinds.{or_else}
 use Rattle.clap.specs.Simple.{entered}
@@ -39,3 +40,32 @@ first_is_name word rest met none = go (turned line.top names line_alone [] None 
     go (inr trailing) = ends (walk_fault line.top names (walk_from nothing_held) (word ∷ rest)) rest
       (subst (λ w. walk_fault line.top names w rest ≡ []) trailing (second_none _ _ walking))
       (subst (λ w. faults_after (fold (walked rules names) w rest) (walk_fault line.top names (walk_from nothing_held) (word ∷ rest)) ≡ []) trailing none)
+
+-- ---- the four names
+
+abbrev pub IsName : Text → Type 0
+IsName word = (word ≡ codes "decide") ⊎ (word ≡ codes "page") ⊎ (word ≡ codes "check") ⊎ (word ≡ codes "sample")
+
+same_word : (name word : Text) → bytes_eq name word ≡ true → word ≡ name
+same_word name word is = sym ((bytes_eq-Decides name word).0 is)
+
+pub name_or_none : (word : Text) → IsName word ⊎ (subcommand_met names idle word ≡ None)
+name_or_none word = decide (bytes_eq (codes "decide") word) refl
+  where
+    sample : (test : Bool) → bytes_eq (codes "decide") word ≡ false → bytes_eq (codes "page") word ≡ false → bytes_eq (codes "check") word ≡ false → bytes_eq (codes "sample") word ≡ test
+        → IsName word ⊎ (subcommand_met names idle word ≡ None)
+    sample true no_decide no_page no_check is = inl (inr (inr (inr (same_word _ _ is))))
+    sample false no_decide no_page no_check is = inr (rw (no_decide, no_page, no_check, is) refl)
+
+    check : (test : Bool) → bytes_eq (codes "decide") word ≡ false → bytes_eq (codes "page") word ≡ false → bytes_eq (codes "check") word ≡ test
+        → IsName word ⊎ (subcommand_met names idle word ≡ None)
+    check true no_decide no_page is = inl (inr (inr (inl (same_word _ _ is))))
+    check false no_decide no_page is = sample (bytes_eq (codes "sample") word) no_decide no_page is refl
+
+    page : (test : Bool) → bytes_eq (codes "decide") word ≡ false → bytes_eq (codes "page") word ≡ test → IsName word ⊎ (subcommand_met names idle word ≡ None)
+    page true no_decide is = inl (inr (inl (same_word _ _ is)))
+    page false no_decide is = check (bytes_eq (codes "check") word) no_decide is refl
+
+    decide : (test : Bool) → bytes_eq (codes "decide") word ≡ test → IsName word ⊎ (subcommand_met names idle word ≡ None)
+    decide true is = inl (inl (same_word _ _ is))
+    decide false is = page (bytes_eq (codes "page") word) is refl
