@@ -10,7 +10,7 @@ use Rattle.clap.specs.Kinds.{or_else}
 use Rattle.clap.specs.Simple.{built, built_leaf, inherited, entered, label_of, names_of, rows_at}
 use Rattle.clap.specs.Walk.{Names, Walk, answers_to, finished, nothing_held, rows_after, settled, walk, walk_from, walked}
 use Rattle.clap.specs.Words.{App, Kinds, Row, Rule, Shape, Text, fault_of, subcommand_of}
-use Rattle.obd_cli.specs.CommandLine.{obd, sample}
+use Rattle.obd_cli.specs.CommandLine.{obd, plain, sample}
 
 -- the command line as clap builds it
 abbrev pub line : App
@@ -66,3 +66,18 @@ sample_faults rest = entered_faults (codes "sample") sample_line rest refl refl 
 pub sample_rows : (rest : List Text) → subcommand_of obd (codes "sample" ∷ rest) ≡ Some (codes "sample", rows_after sample_line.rules [] rest)
 unfolding clap_on_literals
 sample_rows rest = entered_rows (codes "sample") sample_line rest refl refl refl
+
+abbrev pub plain_line : Text → Shape
+plain_line name = built_leaf (inherited line.top (plain name))
+
+pub decide_rows : (rest : List Text) → subcommand_of obd (codes "decide" ∷ rest) ≡ Some (codes "decide", rows_after (plain_line (codes "decide")).rules [] rest)
+unfolding clap_on_literals
+decide_rows rest = entered_rows (codes "decide") (plain_line (codes "decide")) rest refl refl refl
+
+pub page_rows : (rest : List Text) → subcommand_of obd (codes "page" ∷ rest) ≡ Some (codes "page", rows_after (plain_line (codes "page")).rules [] rest)
+unfolding clap_on_literals
+page_rows rest = entered_rows (codes "page") (plain_line (codes "page")) rest refl refl refl
+
+pub check_rows : (rest : List Text) → subcommand_of obd (codes "check" ∷ rest) ≡ Some (codes "check", rows_after (plain_line (codes "check")).rules [] rest)
+unfolding clap_on_literals
+check_rows rest = entered_rows (codes "check") (plain_line (codes "check")) rest refl refl refl

@@ -1,5 +1,5 @@
 -- Which words are which command.
-use Rattle.std.proofs.Common.{◌≡◌, ◌∙◌, ◌<◌, ◌≤◌, ◌^◌, ℕ, Bool, true, false, List, [], ◌∷◌, Option, Some, None, cond, codes, refl, sym, ap, arith}
+use Rattle.std.proofs.Common.{◌≡◌, ◌∙◌, ◌<◌, ◌≤◌, ◌^◌, ◌⊎◌, ℕ, Bool, true, false, List, [], ◌∷◌, Option, Some, None, cond, codes, refl, sym, ap, inl, inr, arith}
 use Rattle.std.proofs.lemmas.Bool.{ne_eqb}
 use Rattle.std.proofs.lemmas.Int.{ints}
 use Rattle.std.proofs.lemmas.Fmt.{decimal_is_IsNumeral}
@@ -9,11 +9,17 @@ use Rattle.std.specs.Str.Parse.{digits_value, signed_digits_value, starts_with_m
 use Rattle.clap.proofs.ValueTestLemmas.{Accepts-accepts}
 use Rattle.clap.specs.ValueTests.{accepts}
 use Rattle.clap.specs.declared.builder.value_parser.ValueParser.TheVariants as parser
-use Rattle.obd_cli.proofs.CommandReads.{small_number}
+use Rattle.clap.specs.Walk.{idle, subcommand_met}
+use Rattle.clap.specs.Words.{Kinds, Text, fault_of}
+use Rattle.obd_cli.proofs.CommandEntered.{names}
+use Rattle.obd_cli.proofs.CommandFirst.{IsName, first_is_name, name_or_none}
+use Rattle.obd_cli.proofs.CommandFlags.{some_kind}
+use Rattle.obd_cli.proofs.CommandReads.{faulty_words, small_number}
 use Rattle.obd_cli.proofs.CommandSample.{sample_command}
-use Rattle.obd_cli.specs.CommandLine.{number_in}
+use Rattle.obd_cli.proofs.CommandTaken.{IsCommand, which_command}
 use Rattle.clap.proofs.OnLiterals.{clap_on_literals}
-use Rattle.obd_cli.specs.CommandLine.{command_of}
+use Rattle.obd_cli.specs.CommandLine.{command_of, number_in, obd}
+use Rattle.obd_cli.specs.declared.status.Command.{Command}
 use Rattle.obd_cli.specs.declared.status.Command.TheVariants as command
 
 pub decide_alone : command_of (codes "decide" ∷ []) ≡ Some command.Decide
@@ -74,3 +80,56 @@ pub sample_numbers : (seed twists : ℕ) → seed < 65536 → 1 ≤ twists → t
 sample_numbers seed twists seed_fits least most =
     sample_command (decimal seed) (decimal twists) (no_minus seed (omega arith)) (no_minus twists (omega arith)) seed twists
     (taken seed (omega arith) 0 65535 (omega arith) (omega arith)) (taken twists (omega arith) 1 256 least most) (number seed (omega arith) seed_fits) (number twists (omega arith) (omega arith))
+
+-- ---- when words are a command
+
+-- words are none exactly where clap finds a fault in them
+pub no_fault : (words : List Text) (which : Command) → command_of words ≡ Some which → fault_of obd words ≡ []
+no_fault words which is = go (fault_of obd words) refl
+  where
+    go : (kinds : Kinds) → fault_of obd words ≡ kinds → kinds ≡ []
+    go [] same = refl
+    go (kind ∷ kinds) same = absurd (let bad : None ≡ Some which = sym (faulty_words words (λ none. some_kind kind kinds (sym same ∙ none))) ∙ is in cc)
+
+pub some_command : (words : List Text) → fault_of obd words ≡ [] → (which : Command) × (command_of words ≡ Some which)
+some_command words none = go (which_command words none)
+  where
+    go : IsCommand (command_of words) → (which : Command) × (command_of words ≡ Some which)
+    go (inl decide) = (command.Decide, decide)
+    go (inr (inl page)) = (command.Page, page)
+    go (inr (inr (inl check))) = (command.Check, check)
+    go (inr (inr (inr sampled))) = (command.Sample sampled.seed sampled.twists, sampled.is)
+
+-- words of which the first is none of the four names are none
+pub other_word : (word : Text) (rest : List Text) → (word ≡ codes "decide" → ⊥) → (word ≡ codes "page" → ⊥) → (word ≡ codes "check" → ⊥) → (word ≡ codes "sample" → ⊥)
+    → command_of (word ∷ rest) ≡ None
+other_word word rest no_decide no_page no_check no_sample = faulty_words (word ∷ rest) (go (name_or_none word))
+  where
+    go : IsName word ⊎ (subcommand_met names idle word ≡ None) → fault_of obd (word ∷ rest) ≡ [] → ⊥
+    go (inl (inl is)) none = no_decide is
+    go (inl (inr (inl is))) none = no_page is
+    go (inl (inr (inr (inl is)))) none = no_check is
+    go (inl (inr (inr (inr is)))) none = no_sample is
+    go (inr met) none = first_is_name word rest met none
+
+-- the numbers of `sample` are in range
+pub numbers_in_range : (words : List Text) (seed twists : ℕ) → command_of words ≡ Some (command.Sample seed twists) → (seed < 65536) × (1 ≤ twists) × (twists ≤ 256)
+numbers_in_range words seed twists is = go (which_command words (no_fault words (command.Sample seed twists) is))
+  where
+    seed_of : Option Command → ℕ
+    seed_of (Some (command.Sample seed twists)) = seed
+    seed_of _ = 0
+
+    twists_of : Option Command → ℕ
+    twists_of (Some (command.Sample seed twists)) = twists
+    twists_of _ = 0
+
+    go : IsCommand (command_of words) → (seed < 65536) × (1 ≤ twists) × (twists ≤ 256)
+    go (inl other) = absurd (let bad = sym other ∙ is in cc)
+    go (inr (inl other)) = absurd (let bad = sym other ∙ is in cc)
+    go (inr (inr (inl other))) = absurd (let bad = sym other ∙ is in cc)
+    go (inr (inr (inr sampled))) =
+        let same = sym sampled.is ∙ is in
+        let same_seed : sampled.seed ≡ seed = ap seed_of same in
+        let same_twists : sampled.twists ≡ twists = ap twists_of same in
+        (rw (← same_seed) sampled.seed_most, rw (← same_twists) sampled.twists_least, rw (← same_twists) sampled.twists_most)

@@ -3,19 +3,20 @@ use Rattle.std.proofs.Common.{◌≡◌, ◌∙◌, ◌⊎◌, ◌||◌, ◌<◌
 use Rattle.std.specs.Prelude.{⊤, pos, if◌then◌else◌, option_and_then, option_map}
 use Rattle.std.specs.Str.Parse.{ParsesUnsigned}
 use Rattle.clap.proofs.CallerReads.{signed_reads}
+use Rattle.clap.proofs.OnLiterals.{clap_on_literals}
 use Rattle.clap.proofs.ValueTestLemmas.{accepts-Accepts}
 use Rattle.clap.specs.Faults.{check_fault, defaults_fault, level_fault, settle_fault, turn_fault, walk_fault}
 use Rattle.clap.specs.Kinds.{or_else, value_kinds}
 use Rattle.clap.specs.Lexer.{without_minus}
 use Rattle.clap.specs.Values.{refused_kind}
 use Rattle.clap.specs.ValueTests.{accepts}
-use Rattle.clap.specs.Walk.{Walk, finished, has_long, has_short, nothing_held, rows_after, settled, walk, walk_from, walked}
+use Rattle.clap.specs.Walk.{Walk, finished, has_long, has_short, idle, nothing_held, rows_after, settled, subcommand_met, walk, walk_from, walked}
 use Rattle.clap.specs.Words.{Kinds, Row, Rule, Shape, Text, fault_of}
 use Rattle.clap.specs.declared.builder.value_parser.ValueParser.{ValueParser}
 use Rattle.clap.specs.declared.builder.value_parser.ValueParser.TheVariants as parser
 use Rattle.clap.specs.declared.error.kind.ErrorKind.TheVariants as kind
-use Rattle.obd_cli.proofs.CommandEntered.{sample_faults, sample_line, sample_rows}
-use Rattle.obd_cli.proofs.CommandFirst.{help_or_none}
+use Rattle.obd_cli.proofs.CommandEntered.{check_rows, decide_rows, names, page_rows, sample_faults, sample_line, sample_rows}
+use Rattle.obd_cli.proofs.CommandFirst.{IsName, first_is_name, help_or_none, name_or_none}
 use Rattle.obd_cli.proofs.CommandFlags.{Goes, HasHelpAlone, first_none, help, place, second_none, some_kind, turned}
 use Rattle.obd_cli.proofs.CommandReads.{reads_number, taken_command}
 use Rattle.obd_cli.proofs.CommandSample.{numbers, row, seeds}
@@ -175,3 +176,31 @@ sampled rest none =
       twists_least = twists_least;
       twists_most = twists_most;
     }
+
+-- ---- all words with no fault
+
+-- what command they are
+abbrev pub IsCommand : Option Command → Type 0
+IsCommand which = (which ≡ Some command.Decide) ⊎ (which ≡ Some command.Page) ⊎ (which ≡ Some command.Check) ⊎ IsSampled which
+
+no_words : fault_of obd [] ≡ [] → ⊥
+unfolding clap_on_literals
+no_words none = some_kind kind.MissingSubcommand [] none
+
+named_command : (word : Text) (rest : List Text) → IsName word → fault_of obd (word ∷ rest) ≡ [] → IsCommand (command_of (word ∷ rest))
+named_command word rest (inl is) = subst (λ word. fault_of obd (word ∷ rest) ≡ [] → IsCommand (command_of (word ∷ rest))) (sym is)
+    (λ none. inl (taken_command (codes "decide" ∷ rest) none ∙ ap (option_and_then named) (decide_rows rest)))
+named_command word rest (inr (inl is)) = subst (λ word. fault_of obd (word ∷ rest) ≡ [] → IsCommand (command_of (word ∷ rest))) (sym is)
+    (λ none. inr (inl (taken_command (codes "page" ∷ rest) none ∙ ap (option_and_then named) (page_rows rest))))
+named_command word rest (inr (inr (inl is))) = subst (λ word. fault_of obd (word ∷ rest) ≡ [] → IsCommand (command_of (word ∷ rest))) (sym is)
+    (λ none. inr (inr (inl (taken_command (codes "check" ∷ rest) none ∙ ap (option_and_then named) (check_rows rest)))))
+named_command word rest (inr (inr (inr is))) = subst (λ word. fault_of obd (word ∷ rest) ≡ [] → IsCommand (command_of (word ∷ rest))) (sym is)
+    (λ none. inr (inr (inr (sampled rest none))))
+
+pub which_command : (words : List Text) → fault_of obd words ≡ [] → IsCommand (command_of words)
+which_command [] none = absurd (no_words none)
+which_command (word ∷ rest) none = go (name_or_none word)
+  where
+    go : IsName word ⊎ (subcommand_met names idle word ≡ None) → IsCommand (command_of (word ∷ rest))
+    go (inl name) = named_command word rest name none
+    go (inr met) = absurd (first_is_name word rest met none)
