@@ -1,5 +1,5 @@
 -- The words after the name of a command are that command's own.
-use Rattle.std.proofs.Common.{◌≡◌, ◌∙◌, Bool, true, false, List, [], ◌∷◌, fold, is_some, Option, Some, None, codes, refl, sym, ap, ap₂}
+use Rattle.std.proofs.Common.{◌≡◌, ◌∙◌, false, List, [], ◌∷◌, fold, is_some, Option, Some, codes, refl, sym, ap, ap₂}
 use Rattle.std.specs.Prelude.{find, option_map}
 use Rattle.std.specs.Option.{option_map_or}
 use Rattle.clap.proofs.FaultLemmas.{stopped_fault}
@@ -9,7 +9,7 @@ use Rattle.clap.specs.Faults.{check_fault, defaults_fault, entered_fault, level_
 use Rattle.clap.specs.Kinds.{or_else}
 use Rattle.clap.specs.Simple.{built, built_leaf, inherited, entered, label_of, names_of, rows_at}
 use Rattle.clap.specs.Walk.{Names, Walk, answers_to, finished, nothing_held, rows_after, settled, walk, walk_from, walked}
-use Rattle.clap.specs.Words.{App, Kinds, Row, Rule, Shape, Text, fault_of, subcommand_of}
+use Rattle.clap.specs.Words.{App, Kinds, Rule, Shape, Text, fault_of, subcommand_of}
 use Rattle.obd_cli.specs.CommandLine.{obd, plain, sample}
 
 -- the command line as clap builds it

@@ -1,13 +1,11 @@
 -- The first word decides: it is the name of a command, or there is none.
-use Rattle.std.proofs.Common.{◌≡◌, ◌∙◌, ◌⊎◌, ◌||◌, ℕ, Bool, true, false, fold, is_some, List, [], ◌∷◌, Option, Some, None, codes, refl, sym, subst, ap, ap₂, inl, inr}
+use Rattle.std.proofs.Common.{◌≡◌, ◌⊎◌, Bool, true, false, fold, List, [], ◌∷◌, Some, None, codes, refl, sym, subst, inl, inr}
 use Rattle.std.specs.Prelude.{if◌then◌else◌}
 use Rattle.std.specs.Str.{bytes_eq}
 use Rattle.std.proofs.lemmas.Slice.Eq.{bytes_eq-Decides}
-use Rattle.clap.specs.Faults.{check_fault, defaults_fault, entered_fault, settle_fault, stray_fault, turn_fault, walk_fault}
-use Rattle.clap.specs.Kinds.{or_else}
-use Rattle.clap.specs.Simple.{entered}
-use Rattle.clap.specs.Walk.{Walk, arg_by_long, arg_by_short, finished, has_long, has_short, idle, nothing_held, settled, subcommand_met, walk, walk_from, walked}
-use Rattle.clap.specs.Words.{Kinds, Row, Rule, Shape, Text, fault_of}
+use Rattle.clap.specs.Faults.{defaults_fault, walk_fault}
+use Rattle.clap.specs.Walk.{has_long, has_short, idle, nothing_held, subcommand_met, walk_from, walked}
+use Rattle.clap.specs.Words.{Kinds, Text, fault_of}
 use Rattle.clap.specs.declared.error.kind.ErrorKind.TheVariants as kind
 use Rattle.obd_cli.proofs.CommandEntered.{faults_after, line, names, rules}
 use Rattle.obd_cli.proofs.CommandFlags.{Goes, HasHelpAlone, first_none, help, place, second_none, some_kind, turned}
@@ -38,8 +36,8 @@ first_is_name word rest met none = go (turned line.top names line_alone [] None 
     go : Goes line.top names line_alone [] None 1 word false (walked rules names (walk_from nothing_held) word) → ⊥
     go (inl value) = some_kind kind.UnknownArgument (kind.InvalidSubcommand ∷ []) value.1
     go (inr trailing) = ends (walk_fault line.top names (walk_from nothing_held) (word ∷ rest)) rest
-      (subst (λ w. walk_fault line.top names w rest ≡ []) trailing (second_none _ _ walking))
-      (subst (λ w. faults_after (fold (walked rules names) w rest) (walk_fault line.top names (walk_from nothing_held) (word ∷ rest)) ≡ []) trailing none)
+        (subst (λ w. walk_fault line.top names w rest ≡ []) trailing (second_none _ _ walking))
+        (subst (λ w. faults_after (fold (walked rules names) w rest) (walk_fault line.top names (walk_from nothing_held) (word ∷ rest)) ≡ []) trailing none)
 
 -- ---- the four names
 

@@ -1,5 +1,5 @@
 -- Where the one flag is that for help, a word is a value, or `--`, or it has a fault.
-use Rattle.std.proofs.Common.{◌≡◌, ◌∙◌, ◌⊎◌, ◌==◌, ℕ, Bool, true, false, List, [], ◌∷◌, length, Option, Some, None, refl, sym, subst, ap, ap₂, inl, inr}
+use Rattle.std.proofs.Common.{◌≡◌, ◌⊎◌, ℕ, Bool, true, false, List, [], ◌∷◌, length, Option, Some, None, refl, sym, subst, ap, inl, inr}
 use Rattle.std.specs.Prelude.{chars, if◌then◌else◌, slice_get}
 use Rattle.std.specs.Option.{option_map_or}
 use Rattle.std.specs.Str.{bytes_eq}
@@ -7,7 +7,7 @@ use Rattle.clap.specs.Faults.{bundle_fault, bundle_step_fault, flag_word_fault, 
 use Rattle.clap.specs.Kinds.{or_else}
 use Rattle.clap.specs.Lexer.{long_of, short_of}
 use Rattle.clap.specs.Simple.{filled, help_rule}
-use Rattle.clap.specs.Walk.{Held, Names, Outcome, Step, Walk, after_flag, after_step, arg_by_index, arg_by_long, arg_by_short, bundle_met, bundle_step, idle, long_or_other, plain, short_or_plain, subcommand_met, subcommand_or_other, to_positional, trailing, value, walked, word_met}
+use Rattle.clap.specs.Walk.{Held, Names, Outcome, Step, Walk, after_flag, after_step, arg_by_index, arg_by_long, arg_by_short, bundle_met, bundle_step, idle, long_or_other, plain, short_or_plain, subcommand_met, subcommand_or_other, to_positional, trailing, value, walked}
 use Rattle.clap.specs.Words.{Kinds, Row, Rule, Shape, Text}
 use Rattle.clap.specs.declared.error.kind.ErrorKind.{ErrorKind}
 use Rattle.clap.specs.declared.error.kind.ErrorKind.TheVariants as kind
@@ -114,17 +114,19 @@ module _ (shape : Shape) (names : Names) (alone : HasHelpAlone shape.rules) (row
       ⊎ (after ≡ place rows pending position true)
 
   read_goes : (met : Held × Step) (kinds : Kinds)
-    → ((kinds ≡ [] → ⊥) ⊎ ((met ≡ (held, value)) × (kinds ≡ []))) ⊎ ((met ≡ (held, trailing position)) × (kinds ≡ []))
-    → or_else kinds (step_fault shape position met.0 met.1) ≡ [] → Goes false (after_step shape.rules word (place rows pending position false) met.0 met.1)
+      → ((kinds ≡ [] → ⊥) ⊎ ((met ≡ (held, value)) × (kinds ≡ []))) ⊎ ((met ≡ (held, trailing position)) × (kinds ≡ []))
+      → or_else kinds (step_fault shape position met.0 met.1) ≡ [] → Goes false (after_step shape.rules word (place rows pending position false) met.0 met.1)
   read_goes met kinds (inl (inl faulty)) none = absurd (faulty (first_none _ _ none))
   read_goes met kinds (inl (inr (is, passes))) none =
-      inl (ap (λ (met : Held × Step). after_step shape.rules word (place rows pending position false) met.0 met.1) is,
-      subst (λ (met : Held × Step). step_fault shape position met.0 met.1 ≡ []) is (second_none _ _ none))
+      inl (
+        ap (λ (met : Held × Step). after_step shape.rules word (place rows pending position false) met.0 met.1) is,
+        subst (λ (met : Held × Step). step_fault shape position met.0 met.1 ≡ []) is (second_none _ _ none),
+      )
   read_goes met kinds (inr (is, passes)) none = inr (ap (λ (met : Held × Step). after_step shape.rules word (place rows pending position false) met.0 met.1) is)
 
   -- a word with no fault is a value in its place, or `--`, after which all are values
   pub turned : (is_trailing : Bool) → subcommand_met names idle word ≡ None → turn_fault shape names (place rows pending position is_trailing) word ≡ []
-    → Goes is_trailing (walked shape.rules names (place rows pending position is_trailing) word)
+      → Goes is_trailing (walked shape.rules names (place rows pending position is_trailing) word)
   unfolding walked
   turned true met = λ none. inl (refl, none)
   turned false met = subst Reads (sym met) (read_goes _ _ (word_read shape alone rows pending position word))

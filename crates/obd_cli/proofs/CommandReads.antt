@@ -1,11 +1,11 @@
 -- What a type of 16 bits reads from a value is the number of the definition.
-use Rattle.std.proofs.Common.{◌≡◌, ◌∙◌, ◌&&◌, ◌^◌, ◌<◌, ℕ, Bool, true, false, List, [], ◌∷◌, length, Option, Some, None, refl, sym, ap, cond, true≢false}
+use Rattle.std.proofs.Common.{◌≡◌, ◌∙◌, ◌&&◌, ◌<◌, ℕ, Bool, true, false, List, [], ◌∷◌, Option, Some, None, refl, sym, ap, true≢false}
 use Rattle.std.proofs.lemmas.Bool.{ltb-true, lt-ltb}
 use Rattle.std.specs.Prelude.{⊤, Ok, Err, Result, nat_lt, option_and_then, if◌then◌else◌}
 use Rattle.std.specs.List.{list_all}
 use Rattle.std.specs.Char.{digit_value}
 use Rattle.std.specs.Str.Parse.{AllDigits, IsNumeral, ParsesUnsigned, digits_value, without_leading_plus}
-use Rattle.clap.proofs.WalkLemmas.{both, one_text-rows}
+use Rattle.clap.proofs.WalkLemmas.{both}
 use Rattle.clap.specs.ValueTests.{is_numeral}
 use Rattle.clap.specs.Words.{Kinds, ReadsOne, Row, Text, fault_of, one_of, subcommand_of}
 use Rattle.obd_cli.specs.CommandLine.{command_of, named, number_in, number_of, obd, without_fault}

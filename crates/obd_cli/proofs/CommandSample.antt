@@ -1,14 +1,14 @@
 -- `sample` with two numbers.
-use Rattle.std.proofs.Common.{◌≡◌, ◌∙◌, ◌==◌, ℕ, Bool, true, false, fold, List, [], ◌∷◌, Option, Some, None, refl, sym, ap, ap₂, codes}
+use Rattle.std.proofs.Common.{◌≡◌, ◌∙◌, ℕ, true, false, List, [], ◌∷◌, Option, Some, None, refl, ap, ap₂, codes}
 use Rattle.std.specs.Prelude.{pos, if◌then◌else◌, option_and_then, option_map}
 use Rattle.std.specs.Str.Parse.{starts_with_minus}
 use Rattle.clap.specs.Faults.{check_fault, defaults_fault, level_fault, settle_fault, turn_fault, walk_fault}
 use Rattle.clap.specs.Kinds.{or_else, value_kinds}
-use Rattle.clap.specs.Lexer.{strip_byte, without_minus}
+use Rattle.clap.specs.Lexer.{without_minus}
 use Rattle.clap.specs.Values.{refused_kind}
 use Rattle.clap.specs.ValueTests.{accepts}
-use Rattle.clap.specs.Walk.{Held, Walk, finished, idle, nothing_held, reading_by, rows_after, settled, walk, walk_from, walked}
-use Rattle.clap.specs.Words.{Kinds, Row, Rule, Shape, Text, fault_of}
+use Rattle.clap.specs.Walk.{Walk, finished, idle, nothing_held, rows_after, settled, walk, walk_from, walked}
+use Rattle.clap.specs.Words.{Kinds, Row, Text}
 use Rattle.clap.specs.declared.builder.value_parser.Reading.TheVariants as reading
 use Rattle.clap.specs.declared.builder.value_parser.ValueParser.{ValueParser}
 use Rattle.clap.specs.declared.builder.value_parser.ValueParser.TheVariants as parser
@@ -17,7 +17,6 @@ use Rattle.obd_cli.proofs.CommandEntered.{sample_faults, sample_line, sample_row
 use Rattle.obd_cli.proofs.CommandReads.{taken_command}
 use Rattle.obd_cli.proofs.CommandValues.{value_fault, value_walked}
 use Rattle.obd_cli.specs.CommandLine.{command_of, named, number_in, sample_of}
-use Rattle.obd_cli.specs.declared.status.Command.{Command}
 use Rattle.obd_cli.specs.declared.status.Command.TheVariants as command
 
 abbrev pub seeds : ValueParser
@@ -81,13 +80,13 @@ module _ (first second : Text) (first_plain : starts_with_minus first ≡ false)
   rows = ap (λ w. finished sample_line.rules w.held) both_walked
 
   numbers_read : (seed twists : ℕ) → number_in first ≡ Some seed → number_in second ≡ Some twists
-    → sample_of (row (codes "SEED") first ∷ row (codes "TWISTS") second ∷ []) ≡ Some (command.Sample seed twists)
+      → sample_of (row (codes "SEED") first ∷ row (codes "TWISTS") second ∷ []) ≡ Some (command.Sample seed twists)
   numbers_read seed twists seed_is twists_is = ap₂ (λ (seed twists : Option ℕ). option_and_then (λ seed. option_map (command.Sample seed) twists) seed)
-    (ap number_in (no_minus first first_plain) ∙ seed_is) (ap number_in (no_minus second second_plain) ∙ twists_is)
+      (ap number_in (no_minus first first_plain) ∙ seed_is) (ap number_in (no_minus second second_plain) ∙ twists_is)
 
   -- two values with no sign that clap takes are `sample` with their numbers
   pub sample_command : (seed twists : ℕ) → accepts false seeds first ≡ true → accepts false numbers second ≡ true → number_in first ≡ Some seed → number_in second ≡ Some twists
-    → command_of (codes "sample" ∷ first ∷ second ∷ []) ≡ Some (command.Sample seed twists)
+      → command_of (codes "sample" ∷ first ∷ second ∷ []) ≡ Some (command.Sample seed twists)
   sample_command seed twists first_taken second_taken seed_is twists_is =
       taken_command (codes "sample" ∷ first ∷ second ∷ []) (sample_faults (first ∷ second ∷ []) ∙ level first_taken second_taken)
       ∙ (ap (option_and_then named) (sample_rows (first ∷ second ∷ []) ∙ ap (λ rows. Some (codes "sample", rows)) rows) ∙ numbers_read seed twists seed_is twists_is)

@@ -5,13 +5,13 @@ use Rattle.std.specs.Str.Parse.{ParsesUnsigned}
 use Rattle.clap.proofs.CallerReads.{signed_reads}
 use Rattle.clap.proofs.OnLiterals.{clap_on_literals}
 use Rattle.clap.proofs.ValueTestLemmas.{accepts-Accepts}
-use Rattle.clap.specs.Faults.{check_fault, defaults_fault, level_fault, settle_fault, turn_fault, walk_fault}
+use Rattle.clap.specs.Faults.{check_fault, defaults_fault, settle_fault, turn_fault, walk_fault}
 use Rattle.clap.specs.Kinds.{or_else, value_kinds}
 use Rattle.clap.specs.Lexer.{without_minus}
 use Rattle.clap.specs.Values.{refused_kind}
 use Rattle.clap.specs.ValueTests.{accepts}
 use Rattle.clap.specs.Walk.{Walk, finished, has_long, has_short, idle, nothing_held, rows_after, settled, subcommand_met, walk, walk_from, walked}
-use Rattle.clap.specs.Words.{Kinds, Row, Rule, Shape, Text, fault_of}
+use Rattle.clap.specs.Words.{Kinds, Text, fault_of}
 use Rattle.clap.specs.declared.builder.value_parser.ValueParser.{ValueParser}
 use Rattle.clap.specs.declared.builder.value_parser.ValueParser.TheVariants as parser
 use Rattle.clap.specs.declared.error.kind.ErrorKind.TheVariants as kind

@@ -9,6 +9,7 @@ use clap::{Arg, ArgAction, ArgMatches, Error};
 use obd_base::NoMemory;
 use std::alloc::{AllocError, Global};
 
+// The seed of `sample`.
 fn seed_arg<'a>(alloc: Global) -> Arg<'a>
     ensures rule { rule_of result ≡ seed }
     ensures local { result.global ≡ false }
@@ -19,6 +20,7 @@ fn seed_arg<'a>(alloc: Global) -> Arg<'a>
         .value_parser(clap::value_parser!(u16))
 }
 
+// The number of twists of `sample`.
 fn twists_arg<'a>(alloc: Global) -> Arg<'a>
     ensures rule { rule_of result ≡ twists }
     ensures local { result.global ≡ false }
@@ -91,9 +93,11 @@ fn named(matches: &ArgMatches) -> Option<Command>
     }
 }
 
-/// The command that the words after the program's own name are, `None` where they are none.
+/// The command that the words after the program's own name are: `decide`, `page`, `check`, or `sample` with a seed from 0 to
+/// 65535 and a number of twists from 1 to 256. `None` exactly where clap finds a fault in the words, as in a call for help.
 ///
-/// The command line is built anew in each call. Linear in the bytes of the words, and what it takes of memory is given back.
+/// `NoMemory` where memory was wanting for the command line, which each call builds anew, or for the words that were read.
+/// Linear in the bytes of the words; the memory that it takes is given back.
 pub(crate) fn command_of(alloc: Global, words: &[String]) -> Result<Option<Command>, NoMemory>
     ensures { IfOk result (λ found. found ≡ command_of (map string_bytes words.now)) }
 {

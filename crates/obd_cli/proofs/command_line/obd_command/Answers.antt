@@ -1,5 +1,5 @@
-use Rattle.std.proofs.Common.{rules, ap, ap₂, ◌≡◌, ◌∙◌, [], codes}
-use Rattle.clap.specs.Words.{App, app_of, new_app, with_rule, with_subcommand}
+use Rattle.std.proofs.Common.{rules, ap, ap₂, ◌≡◌, ◌∙◌, []}
+use Rattle.clap.specs.Words.{App, app_of, with_rule, with_subcommand}
 use Rattle.obd_cli.specs.CommandLine.{alone, sample}
 use Rattle.obd_cli.proofs.command_line.obd_command.Goals as goal
 
