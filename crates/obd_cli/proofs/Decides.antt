@@ -71,6 +71,34 @@ finished command.Page bytes left now_left written now_written book s answer gave
       words_are = words_are;
       wrote = subst (Appends written now_written) text wrote;
     }
+finished command.Check bytes left now_left written now_written book s answer gave ended read is_surface is done wrote =
+    let (words, words_are, text) = page_done book s (book_words book s) answer is done in
+    record {
+      bytes = bytes;
+      gave = gave;
+      ended = ended;
+      book = book;
+      read = read;
+      surface = s;
+      surface_is = is_surface;
+      words = words;
+      words_are = words_are;
+      wrote = subst (Appends written now_written) text wrote;
+    }
+finished (command.Sample seed twists) bytes left now_left written now_written book s answer gave ended read is_surface is done wrote =
+    let (words, words_are, text) = page_done book s (book_words book s) answer is done in
+    record {
+      bytes = bytes;
+      gave = gave;
+      ended = ended;
+      book = book;
+      read = read;
+      surface = s;
+      surface_is = is_surface;
+      words = words;
+      words_are = words_are;
+      wrote = subst (Appends written now_written) text wrote;
+    }
 
 by_owed : (command : Option Command) (left now_left written now_written : Option (List ℕ)) (answer : Answer) → Owes command left now_left answer
     → answer.status ≡ status.Done → Appends written now_written answer.text → Finished command left now_left written now_written
@@ -108,6 +136,8 @@ surface_status command.Decide book (Ok s) answer is answers =
       λ limits. let (left, over, line) = words_budget book s found answer is answers limits in (left, over),
     )
 surface_status command.Page book (Ok s) answer is answers = ap (λ (a : Answer). a.status) answers
+surface_status command.Check book (Ok s) answer is answers = ap (λ (a : Answer). a.status) answers
+surface_status (command.Sample seed twists) book (Ok s) answer is answers = ap (λ (a : Answer). a.status) answers
 
 -- where a rule fails there is no book
 no_book : (bytes : List ℕ) (refusal : DocRefusal) → refusal_of bytes ≡ Some refusal → book_read bytes ≡ None
@@ -150,6 +180,8 @@ book_no_usage : (command : Command) (book : Book) (found : Result Slid RefusedSl
 book_no_usage command book (Err refused) is = let bad = is in cc
 book_no_usage command.Decide book (Ok s) is = words_no_usage book s (book_words book s) (sym is.0)
 book_no_usage command.Page book (Ok s) is = page_no_usage book s (book_words book s) (sym is)
+book_no_usage command.Check book (Ok s) is = page_no_usage book s (book_words book s) (sym is)
+book_no_usage (command.Sample seed twists) book (Ok s) is = page_no_usage book s (book_words book s) (sym is)
 
 status_no_usage : (command : Command) (book : Option Book) → HasReadStatus command book status.Usage → ⊥
 status_no_usage command (Some book) is = book_no_usage command book (surface_of (open_book book)) is

@@ -3,6 +3,14 @@ pub mod BookWords
 mod Built
 mod Certified
 mod Collected
+mod CommandEntered
+mod CommandFirst
+mod CommandFlags
+pub mod CommandLaws
+mod CommandReads
+mod CommandSample
+mod CommandTaken
+mod CommandValues
 mod Decides
 mod FirstDrawn
 mod LimitRead

@@ -32,6 +32,8 @@ module _ (Goes : Book → List ℕ → Type 0) (ends : Status) (not_done : statu
   surface_goes which book (Err refused) answer found answers is = absurd (not_refused (sym (ap (λ (a : Answer). a.status) answers) ∙ is))
   surface_goes command.Decide book (Ok s) answer found answers is = (refl, words_go book s (book_words book s) answer found answers is)
   surface_goes command.Page book (Ok s) answer found answers is = absurd (page_stays book s (book_words book s) (sym (ap (λ (a : Answer). a.status) answers) ∙ is))
+  surface_goes command.Check book (Ok s) answer found answers is = absurd (page_stays book s (book_words book s) (sym (ap (λ (a : Answer). a.status) answers) ∙ is))
+  surface_goes (command.Sample seed twists) book (Ok s) answer found answers is = absurd (page_stays book s (book_words book s) (sym (ap (λ (a : Answer). a.status) answers) ∙ is))
 
   -- and so is one to a document
   doc_goes : (which : Command) (refusal : Option DocRefusal) (book : Option Book) (answer : Answer) → AnswersDoc which refusal book answer → answer.status ≡ ends

@@ -106,6 +106,8 @@ abbrev pub AnswersSurface : Command → Book → Result Slid RefusedSlide → An
 AnswersSurface command book (Err refused) answer = answer ≡ refused_with (slide_line (curve_names book) refused)
 AnswersSurface command.Decide book (Ok s) answer = AnswersWords book s (book_words book s) answer
 AnswersSurface command.Page book (Ok s) answer = answer ≡ page_answer book s (book_words book s)
+AnswersSurface command.Check book (Ok s) answer = answer ≡ page_answer book s (book_words book s)
+AnswersSurface (command.Sample seed twists) book (Ok s) answer = answer ≡ page_answer book s (book_words book s)
 
 abbrev pub AnswersBook : Command → Book → Answer → Type 0
 AnswersBook command book answer = AnswersSurface command book (surface_of (open_book book)) answer
@@ -183,6 +185,8 @@ pub record Paged (left now_left written now_written : Option (List ℕ)) : Type 
 abbrev pub Finished : Option Command → Option (List ℕ) → Option (List ℕ) → Option (List ℕ) → Option (List ℕ) → Type 0
 Finished (Some command.Decide) left now_left written now_written = Decided left now_left written now_written
 Finished (Some command.Page) left now_left written now_written = Paged left now_left written now_written
+Finished (Some command.Check) left now_left written now_written = Paged left now_left written now_written
+Finished (Some (command.Sample seed twists)) left now_left written now_written = Paged left now_left written now_written
 Finished None left now_left written now_written = ⊥
 
 -- the command is `decide`, the source was read to its end, and the book of its bytes goes beyond a limit in this sense, and the
@@ -242,6 +246,8 @@ HasBookStatus command.Decide book (Ok s) result =
     × (result ≡ status.GeneratorLimit → IsOverLimit book)
     × (result ≡ status.MoveBudget → (left : ℕ) × IsOverBudget book left)
 HasBookStatus command.Page book (Ok s) result = result ≡ (page_answer book s (book_words book s)).status
+HasBookStatus command.Check book (Ok s) result = result ≡ (page_answer book s (book_words book s)).status
+HasBookStatus (command.Sample seed twists) book (Ok s) result = result ≡ (page_answer book s (book_words book s)).status
 
 -- the book of bytes that aren't too many
 abbrev pub book_within : List ℕ → Option Book

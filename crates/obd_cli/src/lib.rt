@@ -7,6 +7,7 @@
 #![tactic(auto)]
 
 mod certify;
+mod command_line;
 mod complex;
 mod decide;
 mod drawn;

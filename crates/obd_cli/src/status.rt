@@ -32,6 +32,10 @@ pub(crate) enum Command {
     Decide,
     /// Writes the seams, the basis and the words of the strands of the book that was read.
     Page,
+    /// Tells whether the certificate that was read is valid.
+    Check,
+    /// Writes a book of this many twists that the seed picks.
+    Sample { seed: u16, twists: u16 },
 }
 
 /// A status with the text that goes with it.

@@ -106,6 +106,8 @@ fn answer_on(
     match command {
         Command::Decide => decided(alloc, book, surface),
         Command::Page => paged(alloc, book, surface),
+        Command::Check => paged(alloc, book, surface),
+        Command::Sample { .. } => paged(alloc, book, surface),
     }
 }
 
