@@ -1,6 +1,7 @@
 //! Runs the program's top call over memory on every case that lies in the folders beside it, and writes a line for each.
 //! A case NAME is three files: NAME holds the bytes that are read, NAME.args the words, one a line, and NAME.stdout the
 //! text that must be written. A case that writes another text has another line, and the stored output then differs.
+//! Where that text is a certificate it is checked too, and has a further line.
 //! Of the files in `prefixes` every shorter beginning is tried, which is no JSON and must be refused as such.
 //!
 //! A further case is three more files and one more line of the stored output. It costs no proof.
@@ -12,9 +13,9 @@ use std::alloc::{AllocError, Global};
 use std::{fs, io};
 
 /// The folders of cases.
-const FOLDERS: [&str; 11] = [
-    "decide", "document", "examples", "fields", "identity", "page", "rules", "surface", "usage",
-    "words", "worked",
+const FOLDERS: [&str; 13] = [
+    "check", "damaged", "decide", "document", "examples", "fields", "identity", "page", "rules",
+    "surface", "usage", "words", "worked",
 ];
 
 /// The greatest number of bytes that a run may write.
@@ -61,14 +62,47 @@ fn words_of(alloc: Global, text: &str) -> Result<Vec<String>, AllocError> {
     Ok(words)
 }
 
-// Runs one case.
+// The answer in a certificate, which begins its last line but one. Another text has none.
+fn answer_in(text: &str) -> Option<&str> {
+    if !text.starts_with("contact certificate ") {
+        return None;
+    }
+    let (before, _) = text.rsplit_once("\nend\n")?;
+    let (_, verdict) = before.rsplit_once('\n')?;
+    let (answer, _) = verdict.split_once(' ')?;
+    Some(answer)
+}
+
+// Checks the text that a case wants, where it is a certificate.
+fn check_wanted(rt: &HostRuntime, case: &str, text: &str) -> io::Result<()> {
+    let Some(answer) = answer_in(text) else {
+        return Ok(());
+    };
+    let alloc = rt.alloc();
+    let check = words_of(alloc, "check")?;
+    let wanted = format!(in alloc; "valid {answer}\n")?;
+    let outcome = outcome_of(
+        alloc,
+        &check,
+        text.as_bytes().to_vec(alloc)?,
+        wanted.as_bytes(),
+    );
+    tell(rt, format!(in alloc; "{case}, checked")?.as_str(), outcome)
+}
+
+// Runs one case, and checks the certificate that it wants.
 fn run_case(rt: &HostRuntime, case: &str) -> io::Result<()> {
     let alloc = rt.alloc();
     let bytes = fs::read(rt, case)?;
     let args = fs::read_to_string(rt, format!(in alloc; "{case}.args")?)?;
-    let wanted = fs::read(rt, format!(in alloc; "{case}.stdout")?)?;
+    let wanted = fs::read_to_string(rt, format!(in alloc; "{case}.stdout")?)?;
     let words = words_of(alloc, args.as_str())?;
-    tell(rt, case, outcome_of(alloc, &words, bytes, &wanted))
+    tell(
+        rt,
+        case,
+        outcome_of(alloc, &words, bytes, wanted.as_bytes()),
+    )?;
+    check_wanted(rt, case, wanted.as_str())
 }
 
 // The names of a folder's cases, in order.

@@ -115,6 +115,7 @@ fn endless_spaces_are_too_long_for_each_command(rt: HostRuntime) -> Result<(), F
     for (word, text) in [
         ("decide", "refused 1 InputLong 1048576\n"),
         ("page", "refused 1 InputLong 1048576\n"),
+        ("check", "refused 1 InputLong 8388608\n"),
     ] {
         let mut source = Endless::new(b' ');
         assert!(rt;
