@@ -7,6 +7,7 @@
 mod basis_lines;
 mod certificate;
 mod checked;
+mod checker;
 mod curve_lines;
 mod entries;
 mod fault;
@@ -28,6 +29,7 @@ mod words;
 
 pub use certificate::Certificate;
 pub use checked::{Answer, Checked, Reason};
+pub use checker::check;
 pub use line::{Word, put_line, put_numbered, put_rows};
 pub use parsing::{ParseRefusal, parse};
 pub use printed::print;
