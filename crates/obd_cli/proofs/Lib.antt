@@ -1,3 +1,4 @@
+mod Answering
 mod Ascending
 pub mod BookWords
 mod Built
@@ -19,6 +20,7 @@ mod Moved
 mod Named
 mod OverLimit
 pub mod ReadOpens
+mod SampleBook
 mod Stops
 mod Surfaces
 mod Within

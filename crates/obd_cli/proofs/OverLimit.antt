@@ -10,17 +10,20 @@ use Rattle.nice_plan.specs.Strategy.{strategy}
 use Rattle.nice_plan.proofs.Laws.{weight_left}
 use Rattle.witness_check.specs.Belonging.{IsFirstDrawing}
 use Rattle.witness_check.specs.OpenBook.{IsSurface, OpenBook, surface_of, words_on}
+use Rattle.witness_check.specs.declared.certificate.Certificate.{Certificate}
 use Rattle.obd_doc.specs.declared.book.Book.{Book}
 use Rattle.obd_cli.specs.Opened.{open_book}
-use Rattle.obd_cli.specs.Run.{AnswersDrawing, AnswersWords, GoesOverBudget, GoesOverLimit, drawing_of, stopped}
+use Rattle.obd_cli.specs.Decisions.{drawing_of, stopped}
+use Rattle.obd_cli.specs.Run.{GoesOverBudget, GoesOverLimit}
+use Rattle.obd_cli.proofs.Answering.{AnswersDrawing, AnswersWords}
 use Rattle.obd_cli.specs.Steps.{IsOverBudget, IsOverLimit, last_of}
 use Rattle.obd_cli.specs.declared.status.Answer.{Answer}
 use Rattle.obd_cli.specs.declared.status.Status.TheVariants as status
 use Rattle.obd_cli.proofs.Stops.{drawing_passed, passed, stopped_budget, stopped_limited}
 
-module _ (book : Book) (d : Drawing) (s : Slid) (is_surface : IsSurface (open_book book) s) (first : IsFirstDrawing (open_book book) s d) where
+module _ (tells : Certificate → List ℕ) (book : Book) (d : Drawing) (s : Slid) (is_surface : IsSurface (open_book book) s) (first : IsFirstDrawing (open_book book) s d) where
   -- an answer with GeneratorLimit is one to such a book
-  drawing_limited : (other : Option Answer) (answer : Answer) → stopped book.limits d ≡ other → AnswersDrawing book other answer → answer.status ≡ status.GeneratorLimit → GoesOverLimit book answer.text
+  drawing_limited : (other : Option Answer) (answer : Answer) → stopped book.limits d ≡ other → AnswersDrawing tells book other answer → answer.status ≡ status.GeneratorLimit → GoesOverLimit book answer.text
   drawing_limited None answer is certifies ends = absurd (let bad = sym ends ∙ certifies.done in cc)
   drawing_limited (Some other) answer is same ends =
       let (moves, over, limits) = stopped_limited book.limits d other is (sym (ap (λ (a : Answer). a.status) same) ∙ ends) in (
@@ -29,7 +32,7 @@ module _ (book : Book) (d : Drawing) (s : Slid) (is_surface : IsSurface (open_bo
       )
 
   -- and so is one with MoveBudget
-  drawing_budget : (other : Option Answer) (answer : Answer) → stopped book.limits d ≡ other → AnswersDrawing book other answer → answer.status ≡ status.MoveBudget → GoesOverBudget book answer.text
+  drawing_budget : (other : Option Answer) (answer : Answer) → stopped book.limits d ≡ other → AnswersDrawing tells book other answer → answer.status ≡ status.MoveBudget → GoesOverBudget book answer.text
   drawing_budget None answer is certifies ends = absurd (let bad = sym ends ∙ certifies.done in cc)
   drawing_budget (Some other) answer is same ends =
       let (over, limits) = stopped_budget book.limits d other is (sym (ap (λ (a : Answer). a.status) same) ∙ ends) in (
@@ -38,13 +41,13 @@ module _ (book : Book) (d : Drawing) (s : Slid) (is_surface : IsSurface (open_bo
         ap (λ (a : Answer). a.text) (same ∙ limits),
       )
 
-pub words_limited : (book : Book) (s : Slid) (found : Result (List (List ℕ)) TooLong) (answer : Answer) → IsSurface (open_book book) s → AnswersWords book s found answer → answer.status ≡ status.GeneratorLimit → GoesOverLimit book answer.text
-words_limited book s (Err long) answer is_surface is ends = absurd (let bad = sym ends ∙ ap (λ (a : Answer). a.status) is in cc)
-words_limited book s (Ok words) answer is_surface (first, answers) ends = drawing_limited book (drawing_of s words) s is_surface first (stopped book.limits (drawing_of s words)) answer refl answers ends
+pub words_limited : (tells : Certificate → List ℕ) (book : Book) (s : Slid) (found : Result (List (List ℕ)) TooLong) (answer : Answer) → IsSurface (open_book book) s → AnswersWords tells book s found answer → answer.status ≡ status.GeneratorLimit → GoesOverLimit book answer.text
+words_limited tells book s (Err long) answer is_surface is ends = absurd (let bad = sym ends ∙ ap (λ (a : Answer). a.status) is in cc)
+words_limited tells book s (Ok words) answer is_surface (first, answers) ends = drawing_limited tells book (drawing_of s words) s is_surface first (stopped book.limits (drawing_of s words)) answer refl answers ends
 
-pub words_budget : (book : Book) (s : Slid) (found : Result (List (List ℕ)) TooLong) (answer : Answer) → IsSurface (open_book book) s → AnswersWords book s found answer → answer.status ≡ status.MoveBudget → GoesOverBudget book answer.text
-words_budget book s (Err long) answer is_surface is ends = absurd (let bad = sym ends ∙ ap (λ (a : Answer). a.status) is in cc)
-words_budget book s (Ok words) answer is_surface (first, answers) ends = drawing_budget book (drawing_of s words) s is_surface first (stopped book.limits (drawing_of s words)) answer refl answers ends
+pub words_budget : (tells : Certificate → List ℕ) (book : Book) (s : Slid) (found : Result (List (List ℕ)) TooLong) (answer : Answer) → IsSurface (open_book book) s → AnswersWords tells book s found answer → answer.status ≡ status.MoveBudget → GoesOverBudget book answer.text
+words_budget tells book s (Err long) answer is_surface is ends = absurd (let bad = sym ends ∙ ap (λ (a : Answer). a.status) is in cc)
+words_budget tells book s (Ok words) answer is_surface (first, answers) ends = drawing_budget tells book (drawing_of s words) s is_surface first (stopped book.limits (drawing_of s words)) answer refl answers ends
 
 -- a book has one surface
 same_surface : (s t : Slid) (found : Result Slid RefusedSlide) → found ≡ Ok s → found ≡ Ok t → s ≡ t
@@ -61,7 +64,7 @@ one_first book s t d e same first other =
 
 module _ (book : Book) (d : Drawing) (s : Slid) (is_surface : IsSurface (open_book book) s) (first : IsFirstDrawing (open_book book) s d) where
   -- each first drawing of the book is this one
-  same_first : (t : Slid) (e : Drawing) → IsSurface (open_book book) t → IsFirstDrawing (open_book book) t e → e ≡ d
+  pub same_first : (t : Slid) (e : Drawing) → IsSurface (open_book book) t → IsFirstDrawing (open_book book) t e → e ≡ d
   same_first t e surface_is first_is =
       one_first (open_book book) t s e d (same_surface t s (surface_of (open_book book)) surface_is is_surface) first_is first
 
@@ -73,10 +76,10 @@ module _ (book : Book) (d : Drawing) (s : Slid) (is_surface : IsSurface (open_bo
   never_budget short left over = omega (arith, over.over, ap (λ (e : Drawing). length (strategy e)) (same_first over.surface over.first over.surface_is over.first_is), short)
 
 -- and an answer with Done is one to such a book
-pub words_within : (book : Book) (s : Slid) (found : Result (List (List ℕ)) TooLong) (answer : Answer) → IsSurface (open_book book) s → AnswersWords book s found answer → answer.status ≡ status.Done
+pub words_within : (tells : Certificate → List ℕ) (book : Book) (s : Slid) (found : Result (List (List ℕ)) TooLong) (answer : Answer) → IsSurface (open_book book) s → AnswersWords tells book s found answer → answer.status ≡ status.Done
     → (IsOverLimit book → ⊥) × ((left : ℕ) → IsOverBudget book left → ⊥)
-words_within book s (Err long) answer is_surface is ends = absurd (let bad = sym ends ∙ ap (λ (a : Answer). a.status) is in cc)
-words_within book s (Ok words) answer is_surface (first, answers) ends =
+words_within tells book s (Err long) answer is_surface is ends = absurd (let bad = sym ends ∙ ap (λ (a : Answer). a.status) is in cc)
+words_within tells book s (Ok words) answer is_surface (first, answers) ends =
     let d = drawing_of s words in
-    let (short, few) = passed book.limits d (drawing_passed book d (stopped book.limits d) answer refl answers ends) in
+    let (short, few) = passed book.limits d (drawing_passed tells book d (stopped book.limits d) answer refl answers ends) in
     (never_over book d s is_surface first few, never_budget book d s is_surface first short)

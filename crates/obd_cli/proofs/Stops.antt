@@ -12,9 +12,14 @@ use Rattle.handle_slide.specs.declared.slid.Slid.{Slid}
 use Rattle.nice_plan.specs.Strategy.{strategy, within_limit}
 use Rattle.obd_doc.specs.declared.book.Book.{Book}
 use Rattle.obd_doc.specs.declared.limits.Limits.{Limits}
-use Rattle.obd_cli.specs.Run.{AnswersDrawing, AnswersWords, Certifies, drawing_of, drawing_status, has_text, over_budget, over_limit, stopped, stopped_last, words_status}
+use Rattle.witness_check.specs.declared.certificate.Certificate.{Certificate}
+use Rattle.obd_cli.specs.Answers.{has_text}
+use Rattle.obd_cli.specs.Decisions.{drawing_of, over_budget, over_limit, stopped, stopped_last}
+use Rattle.obd_cli.specs.Run.{drawing_status, words_status}
+use Rattle.obd_cli.proofs.Answering.{AnswersDrawing, AnswersWords, Certifies}
 use Rattle.obd_cli.specs.Steps.{last_of}
 use Rattle.obd_cli.specs.declared.status.Answer.{Answer}
+use Rattle.obd_cli.specs.declared.status.Status.{Status}
 use Rattle.obd_cli.specs.declared.status.Status.TheVariants as status
 
 -- the answer to a strategy that takes too many fingers
@@ -102,29 +107,29 @@ module _ (limits : Limits) (d : Drawing) where
     never_done ends = none_gives (budget_of limits d) (over_limit (limits.generators + 1)) other refl refl long many is ends
 
 -- an answer to a drawing with Done has a certificate
-pub drawing_done : (book : Book) (d : Drawing) (other : Option Answer) (answer : Answer) → stopped book.limits d ≡ other → AnswersDrawing book other answer → answer.status ≡ status.Done → Certifies book answer
-drawing_done book d None answer is certifies ends = certifies
-drawing_done book d (Some other) answer is same ends = absurd (never_done book.limits d other is (sym (ap (λ (a : Answer). a.status) same) ∙ ends))
+pub drawing_done : (tells : Certificate → List ℕ) (book : Book) (d : Drawing) (other : Option Answer) (answer : Answer) → stopped book.limits d ≡ other → AnswersDrawing tells book other answer → answer.status ≡ status.Done → Certifies tells book answer
+drawing_done tells book d None answer is certifies ends = certifies
+drawing_done tells book d (Some other) answer is same ends = absurd (never_done book.limits d other is (sym (ap (λ (a : Answer). a.status) same) ∙ ends))
 
 -- since nothing stops it
-pub drawing_passed : (book : Book) (d : Drawing) (other : Option Answer) (answer : Answer) → stopped book.limits d ≡ other → AnswersDrawing book other answer → answer.status ≡ status.Done → stopped book.limits d ≡ None
-drawing_passed book d None answer is certifies ends = is
-drawing_passed book d (Some other) answer is same ends = absurd (never_done book.limits d other is (sym (ap (λ (a : Answer). a.status) same) ∙ ends))
+pub drawing_passed : (tells : Certificate → List ℕ) (book : Book) (d : Drawing) (other : Option Answer) (answer : Answer) → stopped book.limits d ≡ other → AnswersDrawing tells book other answer → answer.status ≡ status.Done → stopped book.limits d ≡ None
+drawing_passed tells book d None answer is certifies ends = is
+drawing_passed tells book d (Some other) answer is same ends = absurd (never_done book.limits d other is (sym (ap (λ (a : Answer). a.status) same) ∙ ends))
 
 -- and so has one to words
-pub words_done : (book : Book) (s : Slid) (found : Result (List (List ℕ)) TooLong) (answer : Answer) → AnswersWords book s found answer → answer.status ≡ status.Done → Certifies book answer
-words_done book s (Err long) answer is ends = absurd (let bad = sym ends ∙ ap (λ (a : Answer). a.status) is in cc)
-words_done book s (Ok words) answer (first, answers) ends = drawing_done book (drawing_of s words) (stopped book.limits (drawing_of s words)) answer refl answers ends
+pub words_done : (tells : Certificate → List ℕ) (book : Book) (s : Slid) (found : Result (List (List ℕ)) TooLong) (answer : Answer) → AnswersWords tells book s found answer → answer.status ≡ status.Done → Certifies tells book answer
+words_done tells book s (Err long) answer is ends = absurd (let bad = sym ends ∙ ap (λ (a : Answer). a.status) is in cc)
+words_done tells book s (Ok words) answer (first, answers) ends = drawing_done tells book (drawing_of s words) (stopped book.limits (drawing_of s words)) answer refl answers ends
 
 -- an answer to a drawing has the status that goes with it
-pub drawing_answered : (book : Book) (other : Option Answer) (answer : Answer) → AnswersDrawing book other answer → answer.status ≡ drawing_status other
-drawing_answered book (Some other) answer is = ap (λ (a : Answer). a.status) is
-drawing_answered book None answer certifies = certifies.done
+pub drawing_answered : (tells : Certificate → List ℕ) (book : Book) (other : Option Answer) (answer : Answer) → AnswersDrawing tells book other answer → answer.status ≡ drawing_status other
+drawing_answered tells book (Some other) answer is = ap (λ (a : Answer). a.status) is
+drawing_answered tells book None answer certifies = certifies.done
 
 -- and so has one to words
-pub words_answered : (book : Book) (s : Slid) (found : Result (List (List ℕ)) TooLong) (answer : Answer) → AnswersWords book s found answer → answer.status ≡ words_status book s found
-words_answered book s (Err long) answer is = ap (λ (a : Answer). a.status) is
-words_answered book s (Ok words) answer (first, answers) = drawing_answered book (stopped book.limits (drawing_of s words)) answer answers
+pub words_answered : (tells : Certificate → List ℕ) (book : Book) (s : Slid) (found : Result (List (List ℕ)) TooLong) (answer : Answer) → AnswersWords tells book s found answer → answer.status ≡ words_status book s found
+words_answered tells book s (Err long) answer is = ap (λ (a : Answer). a.status) is
+words_answered tells book s (Ok words) answer (first, answers) = drawing_answered tells book (stopped book.limits (drawing_of s words)) answer answers
 
 -- which is one with a text
 cond_settled : (b : Bool) (x y : Option Answer) → has_text (drawing_status x) ≡ true → has_text (drawing_status y) ≡ true → has_text (drawing_status (cond b x y)) ≡ true
@@ -139,17 +144,18 @@ pub status_settled : (book : Book) (s : Slid) (found : Result (List (List ℕ)) 
 status_settled book s (Err long) = refl
 status_settled book s (Ok words) = stopped_settled book.limits (drawing_of s words)
 
-pub words_settled : (book : Book) (s : Slid) (found : Result (List (List ℕ)) TooLong) (answer : Answer) → AnswersWords book s found answer → has_text answer.status ≡ true
-words_settled book s found answer answers = ap has_text (words_answered book s found answer answers) ∙ status_settled book s found
+pub words_settled : (tells : Certificate → List ℕ) (book : Book) (s : Slid) (found : Result (List (List ℕ)) TooLong) (answer : Answer) → AnswersWords tells book s found answer → has_text answer.status ≡ true
+words_settled tells book s found answer answers = ap has_text (words_answered tells book s found answer answers) ∙ status_settled book s found
 
--- and isn't Usage
-cond_no_usage : (b : Bool) (x y : Option Answer) → (drawing_status x ≡ status.Usage → ⊥) → (drawing_status y ≡ status.Usage → ⊥) → drawing_status (cond b x y) ≡ status.Usage → ⊥
-cond_no_usage true x y a b is = a is
-cond_no_usage false x y a b is = b is
+-- and isn't another one
+module _ (ends : Status) (not_done : status.Done ≡ ends → ⊥) (not_refused : status.Refused ≡ ends → ⊥) (not_budget : status.MoveBudget ≡ ends → ⊥) (not_limit : status.GeneratorLimit ≡ ends → ⊥) where
+  cond_never : (b : Bool) (x y : Option Answer) → (drawing_status x ≡ ends → ⊥) → (drawing_status y ≡ ends → ⊥) → drawing_status (cond b x y) ≡ ends → ⊥
+  cond_never true x y a b is = a is
+  cond_never false x y a b is = b is
 
-pub words_no_usage : (book : Book) (s : Slid) (found : Result (List (List ℕ)) TooLong) → words_status book s found ≡ status.Usage → ⊥
-words_no_usage book s (Err long) is = let bad = is in cc
-words_no_usage book s (Ok words) is =
-    let d = drawing_of s words in
-    cond_no_usage (nat_lt book.limits.moves (length (strategy d))) _ _ (λ is. let bad = is in cc)
-    (cond_no_usage (nat_lt book.limits.generators (length (generators (last_of d)))) _ _ (λ is. let bad = is in cc) (λ is. let bad = is in cc)) is
+  pub words_never : (book : Book) (s : Slid) (found : Result (List (List ℕ)) TooLong) → words_status book s found ≡ ends → ⊥
+  words_never book s (Err long) is = not_refused is
+  words_never book s (Ok words) is =
+      let d = drawing_of s words in
+      cond_never (nat_lt book.limits.moves (length (strategy d))) _ _ not_budget
+      (cond_never (nat_lt book.limits.generators (length (generators (last_of d)))) _ _ not_limit not_done) is

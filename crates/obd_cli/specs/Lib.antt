@@ -1,6 +1,10 @@
+pub mod Answers
+pub mod CheckAnswer
 pub mod CommandLine
+pub mod Decisions
 pub mod Opened
 pub mod Refused
 pub mod Run
+pub mod Sample
 pub mod Steps
 pub mod Words

@@ -5,7 +5,7 @@ ghost use Rattle.curve_paths.specs.declared.twist.TooLong.{TooLong};
 ghost use Rattle.witness_check.specs.Belonging.{IsFirstDrawing};
 ghost use Rattle.obd_doc.specs.Document.{IsBook};
 ghost use Rattle.obd_cli.specs.Opened.{open_book};
-ghost use Rattle.obd_cli.specs.Run.{drawing_of};
+ghost use Rattle.obd_cli.specs.Decisions.{drawing_of};
 ghost use Rattle.obd_cli.specs.Steps.{IsSurfaceOf};
 ghost use Rattle.obd_cli.specs.Words.{book_words as words_of_book};
 

@@ -2,7 +2,8 @@
 ghost use Rattle.std.specs.Prelude.{◌≡◌, ◌++◌, true, Ok, IfOk, OnOk};
 ghost use Rattle.page_surface.specs.Drawing.{words};
 ghost use Rattle.obd_doc.specs.Document.{IsBook};
-ghost use Rattle.obd_cli.specs.Run.{has_text, page_answer, refused_with};
+ghost use Rattle.obd_cli.specs.Answers.{has_text, page_answer};
+ghost use Rattle.obd_cli.specs.Decisions.{refused_with};
 ghost use Rattle.obd_cli.specs.Steps.{IsSurfaceOf};
 ghost use Rattle.obd_cli.specs.Words.{book_words as words_of_book, lines_of, long_line, words_text};
 

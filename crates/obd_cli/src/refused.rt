@@ -52,12 +52,16 @@ pub(crate) fn put_refused(
     text.put("\n")
 }
 
-/// Appends the line of a limit that isn't kept, by its name and numbers.
+/// Appends a line of a kind with these numbers.
 #[tactic(auto, unfolding(witness_check::specs::Line::line))]
-pub(crate) fn put_limit(text: &mut Text, name: &str, numbers: &[u64]) -> Result<(), NoMemory>
-    ensures { OnOk result (text.new ≡ text.old ++ line name.now (map decimal numbers.now)) }
+pub(crate) fn put_number_line(
+    text: &mut Text,
+    kind: &str,
+    numbers: &[u64],
+) -> Result<(), NoMemory>
+    ensures { OnOk result (text.new ≡ text.old ++ line kind.now (map decimal numbers.now)) }
 {
-    text.put(name)?;
+    text.put(kind)?;
     put_numbers(text, numbers)?;
     text.put("\n")
 }

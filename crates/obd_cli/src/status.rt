@@ -32,10 +32,21 @@ pub(crate) enum Command {
     Decide,
     /// Writes the seams, the basis and the words of the strands of the book that was read.
     Page,
-    /// Tells whether the certificate that was read is valid.
+    /// Tells whether the text that was read is a valid certificate, with its answer or its first bad line.
     Check,
-    /// Writes a book of this many twists that the seed picks.
+    /// Reads nothing, and sums up what is decided of the sample of a seed with so many twists.
     Sample { seed: u16, twists: u16 },
+}
+
+/// What is told of a book.
+#[derive(Clone, Copy, Debug, PartialEq, Eq)]
+pub(crate) enum Wanted {
+    /// Its certificate.
+    Certificate,
+    /// Its seams, its basis and the words of its strands.
+    Words,
+    /// The summary of its certificate, as that of the sample of a seed with so many twists.
+    Summary { seed: u16, twists: u16 },
 }
 
 /// A status with the text that goes with it.

@@ -1,19 +1,28 @@
 // Words and bytes in, a status and a text out.
-ghost use Rattle.std.specs.Prelude.{◌≡◌, ◌≢◌, ◌⊎◌, ◌<◌, ◌≤◌, ◌^◌, List, ℕ, length, true, map, string_bytes, None, Some, Ok, IfOk, OnOk, IfErr, MatchResult};
+ghost use Rattle.std.specs.Prelude.{◌≡◌, ◌≢◌, ◌⊎◌, ◌<◌, ◌≤◌, ◌^◌, List, ℕ, length, true, false, map, string_bytes, None, Some, Ok, IfOk, OnOk, IfErr, MatchResult};
 ghost use Rattle.std.specs.Io.KnownBytes.{Appends};
 ghost use Rattle.obd_base.specs.Causes.{Rose};
 ghost use Rattle.obd_base.specs.Streams.{TookPrefix};
+ghost use Rattle.witness_check.specs.Checked.{checked};
 ghost use Rattle.obd_doc.specs.Document.{IsBook, book_read, curve_names};
 ghost use Rattle.obd_doc.specs.declared.book.Book.{Book as Read};
 ghost use Rattle.obd_cli.specs.Refused.{doc_line, slide_line};
 ghost use Rattle.obd_cli.specs.Steps.{IsSurfaceOf};
-ghost use Rattle.obd_cli.specs.Run.{AnswersAll, AnswersBook, AnswersBytes, AnswersLong, AnswersSurface, CutShort, Finished, GoesOverBudget, GoesOverLimit, HasStatus, IsFault, IsWithin, Limited, Owes, Told, command_of, has_text, most_bytes, refused_with, too_long, usage};
+ghost use Rattle.obd_cli.specs.Answers.{AnswersBook, AnswersCertificate, AnswersDocument, AnswersRead, AnswersSample, AnswersSurface, Owes, has_text, most_bytes, reads, too_long, usage};
+ghost use Rattle.obd_cli.specs.CheckAnswer.{check_answer};
+ghost use Rattle.obd_cli.specs.CommandLine.{command_of};
+ghost use Rattle.obd_cli.specs.Decisions.{refused_with};
+ghost use Rattle.obd_cli.specs.Run.{CutShort, Finished, GoesOverBudget, GoesOverLimit, HasSampleStatus, HasStatus, IsFault, IsWithin, Limited, Rejected, Told};
+ghost use Rattle.obd_cli.specs.Sample.{sample_book};
 ghost use Rattle.obd_cli.specs.declared.status.Command.{Command as Which};
 
-use crate::decide::decided;
+use crate::check_command::judged;
+use crate::command_line::command_of;
+use crate::decide::decide_answer;
 use crate::page::paged;
 use crate::refused::{put_doc_refusal, put_refused, put_slide_refusal};
-use crate::status::{Answer, Command, Status};
+use crate::sample::{sample_answer, sample_book};
+use crate::status::{Answer, Command, Status, Wanted};
 use crate::surface::{Surface, SurfaceRefusal, surface_of};
 use handle_slide::RefusedSlide;
 use obd_base::{NoMemory, ReadRefusal, Sink, Source, Text, WriteFault, read_all, write_all_of};
@@ -23,23 +32,10 @@ use std::alloc::Global;
 /// The greatest number of bytes of a document.
 pub const DOCUMENT_LIMIT: usize = 1_048_576;
 
-const USAGE: &str = "usage: obd decide | page | check | sample SEED TWISTS\n";
+/// The greatest number of bytes of a certificate that is checked.
+pub const CERTIFICATE_LIMIT: usize = 8_388_608;
 
-// The command that the words are, if they are one.
-fn command_of(words: &[String]) -> Option<Command>
-    ensures { result ≡ command_of (map string_bytes words.now) }
-{
-    if words.len() != 1 {
-        return None;
-    }
-    if words[0].as_str() == "decide" {
-        return Some(Command::Decide);
-    }
-    if words[0].as_str() == "page" {
-        return Some(Command::Page);
-    }
-    None
-}
+const USAGE: &str = "usage: obd decide | page | check | sample SEED TWISTS\n";
 
 // The answer to words that are no command.
 fn usage(alloc: Global) -> Result<Answer, NoMemory>
@@ -53,12 +49,12 @@ fn usage(alloc: Global) -> Result<Answer, NoMemory>
     })
 }
 
-// The answer to more bytes than the limit.
-fn too_long(alloc: Global) -> Result<Answer, NoMemory>
-    ensures { IfOk result (λ answer. answer ≡ too_long) }
+// The answer to more bytes than a limit.
+fn too_long(alloc: Global, most: usize) -> Result<Answer, NoMemory>
+    ensures { IfOk result (λ answer. answer ≡ too_long most) }
 {
     let mut text = Text::new(alloc);
-    put_refused(&mut text, 1, "InputLong", &[], &[DOCUMENT_LIMIT as u64])?;
+    put_refused(&mut text, 1, "InputLong", &[], &[most as u64])?;
     Ok(Answer {
         status: Status::Refused,
         text,
@@ -92,7 +88,7 @@ fn not_slid(alloc: Global, book: &Book, refused: &RefusedSlide) -> Result<Answer
 // The answer to a book on its surface.
 fn answer_on(
     alloc: Global,
-    command: Command,
+    wanted: Wanted,
     book: &Book,
     surface: &Surface,
 ) -> Result<Answer, NoMemory>
@@ -100,57 +96,88 @@ fn answer_on(
     requires surface { IsSurfaceOf book.now surface.now }
     requires most_moves { book.now.limits.moves ≤ 20000 }
     requires most_generators { book.now.limits.generators ≤ 20000 }
-    ensures answered { IfOk result (AnswersSurface command book.now (Ok surface.now.slid)) }
+    ensures answered { IfOk result (AnswersSurface wanted book.now (Ok surface.now.slid)) }
     ensures settled { IfOk result (λ answer. has_text answer.status ≡ true) }
 {
-    match command {
-        Command::Decide => decided(alloc, book, surface),
-        Command::Page => paged(alloc, book, surface),
-        Command::Check => paged(alloc, book, surface),
-        Command::Sample { .. } => paged(alloc, book, surface),
+    match wanted {
+        Wanted::Certificate => decide_answer(alloc, book, surface),
+        Wanted::Words => paged(alloc, book, surface),
+        Wanted::Summary { seed, twists } => sample_answer(alloc, seed, twists, book, surface),
     }
 }
 
 // The answer to a book.
-fn answer_to_book(alloc: Global, command: Command, book: &Book) -> Result<Answer, NoMemory>
+fn answer_to_book(alloc: Global, wanted: Wanted, book: &Book) -> Result<Answer, NoMemory>
     requires valid { IsBook book.now }
     requires most_moves { book.now.limits.moves ≤ 20000 }
     requires most_generators { book.now.limits.generators ≤ 20000 }
-    ensures answered { IfOk result (AnswersBook command book.now) }
+    ensures answered { IfOk result (AnswersBook wanted book.now) }
     ensures settled { IfOk result (λ answer. has_text answer.status ≡ true) }
 {
     match surface_of(alloc, book) {
-        Ok(surface) => answer_on(alloc, command, book, &surface),
+        Ok(surface) => answer_on(alloc, wanted, book, &surface),
         Err(SurfaceRefusal::Slide(refused)) => not_slid(alloc, book, &refused),
         Err(SurfaceRefusal::NoMemory) => Err(NoMemory),
     }
 }
 
 // The answer to a document.
-fn answer_to(alloc: Global, command: Command, bytes: &[u8]) -> Result<Answer, NoMemory>
+fn answer_to(alloc: Global, wanted: Wanted, bytes: &[u8]) -> Result<Answer, NoMemory>
     requires { length bytes.now < 2 ^ 32 }
-    ensures answered { IfOk result (AnswersBytes command bytes.now) }
+    ensures answered { IfOk result (AnswersDocument wanted bytes.now) }
     ensures settled { IfOk result (λ answer. has_text answer.status ≡ true) }
 {
     match read(alloc, bytes) {
-        Ok(book) => answer_to_book(alloc, command, &book),
+        Ok(book) => answer_to_book(alloc, wanted, &book),
         Err(DocRefusal::NoMemory) => Err(NoMemory),
         Err(refusal) => refused(alloc, &refusal),
     }
 }
 
-// The answer to what is read, or the status that stands in its place.
-fn answer_read<S: Source>(alloc: Global, command: Command, source: &mut S) -> Result<Answer, Status>
-    ensures answered { IfOk result (λ answer. AnswersAll command (S.left source.old) (S.left source.new) answer
-        ⊎ AnswersLong (S.left source.old) (S.left source.new) answer) }
+// The answer of `sample`.
+fn answer_to_sample(alloc: Global, seed: u16, twists: u16) -> Result<Answer, NoMemory>
+    ensures answered { IfOk result (AnswersSample seed twists) }
+    ensures settled { IfOk result (λ answer. has_text answer.status ≡ true) }
+{
+    let book = sample_book(alloc, seed, twists)?;
+    answer_to_book(alloc, Wanted::Summary { seed, twists }, &book)
+}
+
+// The answer to a document that is read, or the status that stands in its place.
+fn document_answer<S: Source>(
+    alloc: Global,
+    wanted: Wanted,
+    source: &mut S,
+) -> Result<Answer, Status>
+    ensures answered { IfOk result (AnswersRead 1048576 (AnswersDocument wanted) (S.left source.old) (S.left source.new)) }
     ensures settled { IfOk result (λ answer. has_text answer.status ≡ true) }
     ensures kept { OnOk result (S.faults source.new ≡ S.faults source.old) }
     ensures fault { IfErr result (λ status. (status ≡ Status.NoMemory × (S.faults source.new ≡ S.faults source.old))
         ⊎ (status ≡ Status.ReadFault × Rose (S.faults source.old) (S.faults source.new))) }
 {
     let answer = match read_all(alloc, source, DOCUMENT_LIMIT) {
-        Ok(bytes) => answer_to(alloc, command, &bytes),
-        Err(ReadRefusal::InputLong) => too_long(alloc),
+        Ok(bytes) => answer_to(alloc, wanted, &bytes),
+        Err(ReadRefusal::InputLong) => too_long(alloc, DOCUMENT_LIMIT),
+        Err(ReadRefusal::ReadFault) => return Err(Status::ReadFault),
+        Err(ReadRefusal::NoMemory) => return Err(Status::NoMemory),
+    };
+    match answer {
+        Ok(answer) => Ok(answer),
+        Err(NoMemory) => Err(Status::NoMemory),
+    }
+}
+
+// The answer to a certificate that is read, or the status that stands in its place.
+fn certificate_answer<S: Source>(alloc: Global, source: &mut S) -> Result<Answer, Status>
+    ensures answered { IfOk result (AnswersRead 8388608 AnswersCertificate (S.left source.old) (S.left source.new)) }
+    ensures settled { IfOk result (λ answer. has_text answer.status ≡ true) }
+    ensures kept { OnOk result (S.faults source.new ≡ S.faults source.old) }
+    ensures fault { IfErr result (λ status. (status ≡ Status.NoMemory × (S.faults source.new ≡ S.faults source.old))
+        ⊎ (status ≡ Status.ReadFault × Rose (S.faults source.old) (S.faults source.new))) }
+{
+    let answer = match read_all(alloc, source, CERTIFICATE_LIMIT) {
+        Ok(bytes) => judged(alloc, &bytes),
+        Err(ReadRefusal::InputLong) => too_long(alloc, CERTIFICATE_LIMIT),
         Err(ReadRefusal::ReadFault) => return Err(Status::ReadFault),
         Err(ReadRefusal::NoMemory) => return Err(Status::NoMemory),
     };
@@ -165,15 +192,21 @@ fn owed<S: Source>(alloc: Global, words: &[String], source: &mut S) -> Result<An
     ensures owed { IfOk result (Owes (command_of (map string_bytes words.now)) (S.left source.old) (S.left source.new)) }
     ensures text { IfOk result (λ answer. has_text answer.status ≡ true) }
     ensures usage { command_of (map string_bytes words.now) ≡ None → MatchResult result (λ answer. answer.status ≡ Status.Usage) (λ status. status ≡ Status.NoMemory) }
-    ensures unread { command_of (map string_bytes words.now) ≡ None → source.new ≡ source.old }
+    ensures unread { reads (command_of (map string_bytes words.now)) ≡ false → source.new ≡ source.old }
+    ensures wanting { reads (command_of (map string_bytes words.now)) ≡ false → IfErr result (λ status. status ≡ Status.NoMemory) }
     ensures kept { OnOk result (S.faults source.new ≡ S.faults source.old) }
     ensures fault { IfErr result (λ status. (status ≡ Status.NoMemory × (S.faults source.new ≡ S.faults source.old))
         ⊎ (status ≡ Status.ReadFault × Rose (S.faults source.old) (S.faults source.new))) }
 {
-    if let Some(command) = command_of(words) {
-        return answer_read(alloc, command, source);
-    }
-    match usage(alloc) {
+    let answer = match command_of(alloc, words) {
+        Ok(Some(Command::Decide)) => return document_answer(alloc, Wanted::Certificate, source),
+        Ok(Some(Command::Page)) => return document_answer(alloc, Wanted::Words, source),
+        Ok(Some(Command::Check)) => return certificate_answer(alloc, source),
+        Ok(Some(Command::Sample { seed, twists })) => answer_to_sample(alloc, seed, twists),
+        Ok(None) => usage(alloc),
+        Err(NoMemory) => Err(NoMemory),
+    };
+    match answer {
         Ok(answer) => Ok(answer),
         Err(NoMemory) => Err(Status::NoMemory),
     }
@@ -205,7 +238,8 @@ fn run_words<S: Source, K: Sink>(
     ensures told { has_text result ≡ true → Told (command_of (map string_bytes words.now))
         (S.left source.old) (S.left source.new) (K.written sink.old) (K.written sink.new) result }
     ensures no_command { command_of (map string_bytes words.now) ≡ None → (result ≡ Status.Usage) ⊎ (result ≡ Status.WriteFault) ⊎ (result ≡ Status.NoMemory) }
-    ensures unread { command_of (map string_bytes words.now) ≡ None → source.new ≡ source.old }
+    ensures unread { reads (command_of (map string_bytes words.now)) ≡ false → source.new ≡ source.old }
+    ensures no_read_fault { reads (command_of (map string_bytes words.now)) ≡ false → result ≢ Status.ReadFault }
     ensures read_fault { result ≡ Status.ReadFault → Rose (S.faults source.old) (S.faults source.new) }
     ensures write_fault { result ≡ Status.WriteFault → Rose (K.faults sink.old) (K.faults sink.new)
         × CutShort (command_of (map string_bytes words.now)) (S.left source.old) (S.left source.new) (K.written sink.old) (K.written sink.new) }
@@ -220,15 +254,17 @@ fn run_words<S: Source, K: Sink>(
     }
 }
 
-/// One run of the program. The words after the program's own name decide the command, which for now is a single
-/// word. Both commands read a document from the source: `decide` writes the certificate of its open book, where the
-/// strategy takes no more fingers and the last drawing has no more generators than the book's limits, or a line that tells
-/// which of these fails; and `page` writes the seams, the basis and the words of its strands.
+/// One run of the program. The words after the program's own name decide the command. `decide` and `page` read a document
+/// from the source: `decide` writes the certificate of its open book, where the strategy takes no more fingers and the last
+/// drawing has no more generators than the book's limits, or a line that tells which of these fails; and `page` writes the
+/// seams, the basis and the words of its strands. `check` reads a certificate, and writes whether it is valid and what it says,
+/// or its first bad line with the reason. `sample` reads nothing, and sums up what is decided of the sample of a seed.
 ///
 /// The whole text is built before the first write. Where a device fails, its fault takes the place of the
 /// status whose text was owed; `NoMemory` may come at any step that takes memory, before the first write.
 /// Linear in the bytes that are read, but for the order of the fields of a JSON object. With `page` the cost is that of
-/// `monodromy::drawn` besides, and with `decide` also that of `nice_plan::make_nice`, of `boundary_map::columns` and of `eliminate`.
+/// `monodromy::drawn` besides, and with `decide` or `sample` also that of `nice_plan::make_nice`, of `boundary_map::columns`
+/// and of `eliminate`; with `check` it is that of `witness_check::check`.
 pub fn run<S: Source, K: Sink>(
     alloc: Global,
     words: &[String],
@@ -236,16 +272,21 @@ pub fn run<S: Source, K: Sink>(
     sink: &mut K,
 ) -> Status
     // The headline: with `decide`, the certificate that was written belongs to the book of the bytes that were read;
-    // with `page`, the words that were written are those of that book's strands.
+    // with `page`, the words that were written are those of that book's strands; with `check`, the bytes that were read are
+    // a valid certificate; and with `sample`, the summary that was written is that of a certificate of the sample's book.
     ensures done { result ≡ Status.Done → Finished (command_of (map string_bytes words.now))
         (S.left source.old) (S.left source.new) (K.written sink.old) (K.written sink.new) }
 
-    // GeneratorLimit comes with `decide` alone, where the last drawing of the book of the bytes that were read has more
-    // generators than the book's limit.
+    // Bad comes with `check` alone, where the bytes that were read aren't a valid certificate.
+    ensures bad { result ≡ Status.Bad → Rejected (command_of (map string_bytes words.now))
+        (S.left source.old) (S.left source.new) (K.written sink.old) (K.written sink.new) }
+
+    // GeneratorLimit comes with `decide` or `sample` alone, where the last drawing of the book of the bytes that were read, or of
+    // the sample's book, has more generators than the book's limit.
     ensures limited { result ≡ Status.GeneratorLimit → Limited GoesOverLimit (command_of (map string_bytes words.now))
         (S.left source.old) (S.left source.new) (K.written sink.old) (K.written sink.new) }
 
-    // MoveBudget comes with `decide` alone, where the strategy takes more fingers than the book's limit.
+    // MoveBudget comes with `decide` or `sample` alone, where the strategy takes more fingers than the book's limit.
     ensures budget { result ≡ Status.MoveBudget → Limited GoesOverBudget (command_of (map string_bytes words.now))
         (S.left source.old) (S.left source.new) (K.written sink.old) (K.written sink.new) }
 
@@ -257,6 +298,8 @@ pub fn run<S: Source, K: Sink>(
     ensures usage { result ≡ Status.Usage → command_of (map string_bytes words.now) ≡ None }
     ensures no_command { command_of (map string_bytes words.now) ≡ None → (result ≡ Status.Usage) ⊎ (result ≡ Status.WriteFault) ⊎ (result ≡ Status.NoMemory) }
     ensures unread { command_of (map string_bytes words.now) ≡ None → source.new ≡ source.old }
+    // `sample` reads nothing either.
+    ensures sample_unread { (seed twists : ℕ) → command_of (map string_bytes words.now) ≡ Some (Which.Sample seed twists) → source.new ≡ source.old }
 
     // A fault comes only where the device's count of faults rose, and no other status where one did.
     ensures read_fault { result ≡ Status.ReadFault → Rose (S.faults source.old) (S.faults source.new) }
@@ -274,8 +317,20 @@ pub fn run<S: Source, K: Sink>(
     // So `decide` certifies each accepted book whose slides are accepted and that keeps both limits, unless a device fails or
     // memory is wanting.
     ensures certified { (bytes : List ℕ) (book : Read) → command_of (map string_bytes words.now) ≡ Some Which.Decide
-        → S.left source.old ≡ Some bytes → length bytes ≤ most_bytes → book_read bytes ≡ Some book → IsWithin book
+        → S.left source.old ≡ Some bytes → length bytes ≤ most_bytes Which.Decide → book_read bytes ≡ Some book → IsWithin book
         → (Rose (S.faults source.old) (S.faults source.new) → ⊥) → (Rose (K.faults sink.old) (K.faults sink.new) → ⊥)
+        → (result ≡ Status.Done) ⊎ (result ≡ Status.NoMemory) }
+    // With `check` the status is that of the answer to the bytes, unless a device fails or memory is wanting.
+    ensures judged { (bytes : List ℕ) → command_of (map string_bytes words.now) ≡ Some Which.Check
+        → S.left source.old ≡ Some bytes → length bytes ≤ most_bytes Which.Check
+        → (Rose (S.faults source.old) (S.faults source.new) → ⊥) → (Rose (K.faults sink.old) (K.faults sink.new) → ⊥)
+        → (result ≡ (check_answer (checked bytes)).status) ⊎ (result ≡ Status.NoMemory) }
+    // With `sample` the status goes by the sample's book, whatever the source tells;
+    ensures sampled { (seed twists : ℕ) → command_of (map string_bytes words.now) ≡ Some (Which.Sample seed twists)
+        → HasSampleStatus seed twists result ⊎ (result ≡ Status.WriteFault) ⊎ (result ≡ Status.NoMemory) }
+    // so each sample that keeps both limits is summed up, unless the sink fails or memory is wanting.
+    ensures sample_complete { (seed twists : ℕ) → command_of (map string_bytes words.now) ≡ Some (Which.Sample seed twists)
+        → IsWithin (sample_book seed twists) → (Rose (K.faults sink.old) (K.faults sink.new) → ⊥)
         → (result ≡ Status.Done) ⊎ (result ≡ Status.NoMemory) }
     ensures ended { has_text result ≡ true ⊎ IsFault result }
 {

@@ -1,7 +1,7 @@
 use Rattle.std.proofs.Common.{◌≤◌, ap, arith, length}
 use Rattle.drawing.specs.Points.{generators}
-use Rattle.obd_cli.specs.Run.{stopped_last}
-use Rattle.obd_cli.proofs.Built.{certified_answer}
+use Rattle.obd_cli.specs.Decisions.{stopped_last}
+use Rattle.obd_cli.proofs.Built.{certified_decision}
 use Rattle.obd_cli.proofs.Stops.{not_stopped}
 use Rattle.obd_cli.proofs.decide.listed.Goals as goal
 
@@ -10,5 +10,4 @@ returns c =
     let last = c.args.moved.last in
     let limit = c.args.book.now.limits.generators in
     let few : length (generators last) ≤ limit = omega (arith, c.requires.within, ap length c.requires.generators) in
-    certified_answer c.args.book.now (stopped_last limit last) c.in_ok-certificate.certificate c.certified.result c.in_ok-certificate.ensures
-    (not_stopped limit last few) c.certified.ensures
+    certified_decision c.args.book.now (stopped_last limit last) c.in_ok-certificate.certificate c.in_ok-certificate.ensures (not_stopped limit last few)

@@ -6,7 +6,7 @@ use Rattle.curve_paths.specs.Twists.{exits_of, words_after}
 use Rattle.curve_paths.specs.declared.twist.TooLong.{TooLong}
 use Rattle.monodromy.specs.Drawn.{IsDrawn}
 use Rattle.monodromy.specs.declared.refusal.MonodromyRefusal.TheVariants.{TooLong as Long}
-use Rattle.obd_cli.specs.Run.{drawing_of}
+use Rattle.obd_cli.specs.Decisions.{drawing_of}
 use Rattle.obd_cli.specs.Words.{book_words}
 use Rattle.obd_cli.proofs.FirstDrawn.{first_if, words_drawn}
 use Rattle.obd_cli.proofs.drawn.drawn.Goals as goal

@@ -5,7 +5,7 @@ use Rattle.obd_cli.proofs.LimitRead.{limits_read}
 use Rattle.obd_cli.proofs.top.answer_to.Goals as goal
 
 pub returns-in-Ok-clause-answered : goal.returns-in-Ok-clause-answered
-returns-in-Ok-clause-answered c = book_answers c.args.command c.args.bytes.now c.in-Ok.book c.answer_to_book.result (sym c.in-Ok.ensures.accepted) c.answer_to_book.ensures.answered
+returns-in-Ok-clause-answered c = book_answers c.args.wanted c.args.bytes.now c.in-Ok.book c.answer_to_book.result (sym c.in-Ok.ensures.accepted) c.answer_to_book.ensures.answered
 
 pub answer_to_book-requires-clause-valid : goal.answer_to_book-requires-clause-valid
 answer_to_book-requires-clause-valid c = read_is_book c.args.bytes.now c.in-Ok.book c.in-Ok.ensures.accepted
