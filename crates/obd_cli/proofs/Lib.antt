@@ -5,6 +5,7 @@ mod Built
 mod Certified
 mod Collected
 mod Decides
+mod Examples
 mod FirstDrawn
 mod LimitRead
 mod Limits
@@ -12,7 +13,7 @@ mod Moved
 mod Named
 mod OverLimit
 pub mod ReadOpens
-mod SampleBook
+pub mod SampleBook
 mod Stops
 mod Surfaces
 mod Within

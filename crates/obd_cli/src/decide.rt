@@ -161,7 +161,11 @@ fn certified(alloc: Global, certificate: &Certificate) -> Result<Answer, NoMemor
 
 /// The answer of `decide` to a book on its surface: its certificate, or what stands in its place. The cost is that of `decided`,
 /// and linear in the text.
-pub(crate) fn decide_answer(alloc: Global, book: &Book, surface: &Surface) -> Result<Answer, NoMemory>
+pub(crate) fn decide_answer(
+    alloc: Global,
+    book: &Book,
+    surface: &Surface,
+) -> Result<Answer, NoMemory>
     requires valid { IsBook book.now }
     requires surface { IsSurfaceOf book.now surface.now }
     requires most_moves { book.now.limits.moves ≤ 20000 }
