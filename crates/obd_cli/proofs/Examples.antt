@@ -1,5 +1,5 @@
 -- Worked samples and answers of `check`.
-use Rattle.std.proofs.Common.{◌≡◌, ℕ, List, [], ◌∷◌, codes, map, refl}
+use Rattle.std.proofs.Common.{◌≡◌, [], ◌∷◌, codes, map, refl}
 use Rattle.std.specs.Prelude.{negsuc, pos}
 use Rattle.obd_base.specs.Lists.{below}
 use Rattle.curve_paths.specs.declared.twist.Twist.{Twist}

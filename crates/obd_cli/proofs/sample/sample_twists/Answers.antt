@@ -1,6 +1,4 @@
-use Rattle.std.proofs.Common.{◌≡◌, ◌≤◌, ◌∙◌, ap, arith, map}
-use Rattle.obd_base.specs.Lists.{below}
-use Rattle.obd_cli.specs.Sample.{sample_twist}
+use Rattle.std.proofs.Common.{arith}
 use Rattle.obd_cli.proofs.SampleBook.{are_sample, number_more, twists_more}
 use Rattle.obd_cli.proofs.sample.sample_twists.Goals as goal
 
