@@ -13,6 +13,7 @@ mod CommandSample
 mod CommandTaken
 mod CommandValues
 mod Decides
+mod Examples
 mod FirstDrawn
 mod LimitRead
 mod Limits
@@ -20,7 +21,7 @@ mod Moved
 mod Named
 mod OverLimit
 pub mod ReadOpens
-mod SampleBook
+pub mod SampleBook
 mod Stops
 mod Surfaces
 mod Within

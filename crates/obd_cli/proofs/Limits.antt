@@ -5,7 +5,7 @@ use Rattle.curve_paths.specs.declared.twist.TooLong.{TooLong}
 use Rattle.obd_doc.specs.Document.{book_read, refusal_of}
 use Rattle.obd_doc.specs.declared.book.Book.{Book}
 use Rattle.obd_doc.specs.declared.refusal.DocRefusal.{DocRefusal}
-use Rattle.obd_cli.specs.Answers.{AnswersBook, AnswersDoc, AnswersSurface, Owes, page_answer}
+use Rattle.obd_cli.specs.Answers.{AnswersDoc, AnswersSurface, Owes, page_answer}
 use Rattle.obd_cli.specs.CheckAnswer.{check_answer}
 use Rattle.obd_cli.specs.Run.{GoesOverBudget, GoesOverLimit, Limited, Told}
 use Rattle.obd_cli.specs.Sample.{sample_book, summary}
@@ -15,7 +15,6 @@ use Rattle.witness_check.specs.declared.certificate.Certificate.{Certificate}
 use Rattle.witness_check.specs.declared.checked.Checked.{Checked}
 use Rattle.witness_check.specs.declared.checked.Checked.TheVariants.{Bad, Valid}
 use Rattle.obd_cli.proofs.Answering.{AnswersWords, tells_answers}
-use Rattle.obd_cli.specs.declared.status.Wanted.{Wanted}
 use Rattle.obd_cli.specs.declared.status.Wanted.TheVariants as wanted
 use Rattle.handle_slide.specs.declared.refusal.RefusedSlide.{RefusedSlide}
 use Rattle.handle_slide.specs.declared.slid.Slid.{Slid}

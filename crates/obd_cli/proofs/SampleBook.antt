@@ -1,5 +1,5 @@
 -- The book of a sample is a book, its slides are accepted, and how its twist word and its summary are made step by step.
-use Rattle.std.proofs.Common.{◌≡◌, ℕ, zero, suc, ℤ, ◌+◌, ◌*◌, ◌%◌, ◌<◌, ◌≤◌, List, [], ◌∷◌, ◌++◌, codes, length, map, take, get_or, refl, sym, ◌∙◌, ap, ap₂, subst, arith, add-one, length-append}
+use Rattle.std.proofs.Common.{◌≡◌, ℕ, zero, suc, ℤ, ◌+◌, ◌*◌, ◌%◌, ◌<◌, ◌≤◌, List, [], ◌∷◌, ◌++◌, codes, length, map, take, get_or, refl, sym, ◌∙◌, ap, ap₂, arith, add-one, length-append}
 use Rattle.std.specs.List.{All, flat_map}
 use Rattle.std.proofs.lemmas.Nat.{mod_below}
 use Rattle.obd_base.specs.Lists.{below}
@@ -80,6 +80,11 @@ module _ (seed i x y z : ℕ) (is : x ≡ number seed (2 * i)) (first : y ≡ ne
       let there : t ≡ sample_twist seed i = made ∙ (ap₂ entry first (second ∙ ap next first) ∙ entry_there seed i x is) in
       collected_more (sample_twist seed) i now then t before after there
 
+-- the whole word
+pub are_sample : (seed count i : ℕ) (twists : List Twist) → twists ≡ map (sample_twist seed) (below i) → i ≡ count → twists ≡ sample_twists seed count
+unfolding sample_twists
+are_sample seed count i twists are whole = are ∙ ap (λ n. map (sample_twist seed) (below n)) whole
+
 -- the exits of some strands
 abbrev exits : List (List Exit) → List Exit
 exits strands = flat_map (λ strand. strand) strands
@@ -104,3 +109,12 @@ module _ (strands : List (List Exit)) (i : ℕ) (d : List Exit) (less : i < leng
 
   pub exits_few : length (exits (take i strands)) + length (get_or strands i d) ≤ length (exits strands)
   exits_few = omega (arith, exits_after strands i d less, exits_within strands (suc i))
+
+-- a count of the exits so far, with one strand more
+module _ (strands : List (List Exit)) (i : ℕ) (strand d : List Exit) (less : i < length strands) (is : strand ≡ get_or strands i d)
+    (count size : ℕ) (counted : count ≡ length (exits (take i strands))) (sized : size ≡ length strand) where
+  pub count_fits : length (exits strands) ≤ 4000 → count + size ≤ 4000
+  count_fits few = omega (arith, few, exits_few strands i d less, counted, sized, ap length is)
+
+  pub count_more : (now : ℕ) → now ≡ count + size → now ≡ length (exits (take (i + 1) strands))
+  count_more now after = omega (arith, after, exits_more strands i d less, counted, sized, ap length is)

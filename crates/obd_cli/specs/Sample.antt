@@ -4,7 +4,6 @@ use Rattle.std.specs.List.{flat_map}
 use Rattle.std.specs.Fmt.{signed_decimal}
 use Rattle.obd_base.specs.Lists.{below}
 use Rattle.page_surface.specs.Labels.{Label}
-use Rattle.curve_paths.specs.declared.path.Cross.{Cross}
 use Rattle.curve_paths.specs.declared.twist.Twist.{Twist}
 use Rattle.witness_check.specs.Checked.{answer_of}
 use Rattle.witness_check.specs.Line.{line}

@@ -9,10 +9,10 @@ ghost use Rattle.obd_doc.specs.Document.{IsBook};
 ghost use Rattle.obd_cli.specs.Opened.{open_book};
 ghost use Rattle.obd_cli.specs.Answers.{has_text};
 ghost use Rattle.obd_cli.specs.Decisions.{DecidesDrawing, DecidesWords, Tells, over_budget, over_limit, stopped, stopped_last};
-ghost use Rattle.obd_cli.specs.declared.decide.Decision.TheVariants.{Stopped};
 ghost use Rattle.obd_cli.specs.Sample.{HasFewCrossings};
 ghost use Rattle.obd_cli.specs.Steps.{AreDrawings, IsSurfaceOf};
 ghost use Rattle.obd_cli.specs.Words.{book_words as words_of_book};
+ghost use Rattle.obd_cli.specs.declared.decide.Decision.TheVariants.{Stopped};
 
 use crate::certify::certify;
 use crate::drawn::drawn;
@@ -161,7 +161,11 @@ fn certified(alloc: Global, certificate: &Certificate) -> Result<Answer, NoMemor
 
 /// The answer of `decide` to a book on its surface: its certificate, or what stands in its place. The cost is that of `decided`,
 /// and linear in the text.
-pub(crate) fn decide_answer(alloc: Global, book: &Book, surface: &Surface) -> Result<Answer, NoMemory>
+pub(crate) fn decide_answer(
+    alloc: Global,
+    book: &Book,
+    surface: &Surface,
+) -> Result<Answer, NoMemory>
     requires valid { IsBook book.now }
     requires surface { IsSurfaceOf book.now surface.now }
     requires most_moves { book.now.limits.moves ≤ 20000 }

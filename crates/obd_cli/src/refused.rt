@@ -54,11 +54,7 @@ pub(crate) fn put_refused(
 
 /// Appends a line of a kind with these numbers.
 #[tactic(auto, unfolding(witness_check::specs::Line::line))]
-pub(crate) fn put_number_line(
-    text: &mut Text,
-    kind: &str,
-    numbers: &[u64],
-) -> Result<(), NoMemory>
+pub(crate) fn put_number_line(text: &mut Text, kind: &str, numbers: &[u64]) -> Result<(), NoMemory>
     ensures { OnOk result (text.new ≡ text.old ++ line kind.now (map decimal numbers.now)) }
 {
     text.put(kind)?;

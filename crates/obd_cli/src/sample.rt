@@ -7,7 +7,6 @@ ghost use Rattle.obd_cli.specs.Answers.{has_text};
 ghost use Rattle.obd_cli.specs.Decisions.{Tells};
 ghost use Rattle.obd_cli.specs.Sample.{answer_lines, around, crossings, entry, next, question_lines, sample_book, sample_curves, sample_twists, size_lines, summary, torus};
 ghost use Rattle.obd_cli.specs.Steps.{IsSurfaceOf};
-ghost use Rattle.curve_paths.specs.declared.path.Cross.{Cross as Crossed};
 
 use crate::check_command::answer_word;
 use crate::decide::{Decision, decided};

@@ -149,7 +149,7 @@ fn document_answer<S: Source>(
     wanted: Wanted,
     source: &mut S,
 ) -> Result<Answer, Status>
-    ensures answered { IfOk result (AnswersRead 1048576 (AnswersDocument wanted) (S.left source.old) (S.left source.new)) }
+    ensures answered { IfOk result (AnswersRead (most_bytes Which.Decide) (AnswersDocument wanted) (S.left source.old) (S.left source.new)) }
     ensures settled { IfOk result (λ answer. has_text answer.status ≡ true) }
     ensures kept { OnOk result (S.faults source.new ≡ S.faults source.old) }
     ensures fault { IfErr result (λ status. (status ≡ Status.NoMemory × (S.faults source.new ≡ S.faults source.old))
@@ -169,7 +169,7 @@ fn document_answer<S: Source>(
 
 // The answer to a certificate that is read, or the status that stands in its place.
 fn certificate_answer<S: Source>(alloc: Global, source: &mut S) -> Result<Answer, Status>
-    ensures answered { IfOk result (AnswersRead 8388608 AnswersCertificate (S.left source.old) (S.left source.new)) }
+    ensures answered { IfOk result (AnswersRead (most_bytes Which.Check) AnswersCertificate (S.left source.old) (S.left source.new)) }
     ensures settled { IfOk result (λ answer. has_text answer.status ≡ true) }
     ensures kept { OnOk result (S.faults source.new ≡ S.faults source.old) }
     ensures fault { IfErr result (λ status. (status ≡ Status.NoMemory × (S.faults source.new ≡ S.faults source.old))
