@@ -45,3 +45,7 @@ lent_rows shape n l0 l1 xs lent breaks same read = subst (λ zs. RowsRead shape 
 pub if_ok : {T E : Type 0} (P : T → Type 0) (result : Result T E) (a : T) → result ≡ Ok a → IfOk result P → P a
 if_ok P (Ok b) a same p = let is : b ≡ a = cc in subst P is p
 if_ok P (Err e) a same p = absurd cc
+
+pub of_fault : {T : Type 0} (P : Fault → Type 0) (result : Result T Stop) (fault : Fault) → result ≡ Err (stopped fault) → IfErr result (λ stop. (one : Fault) → stop ≡ stopped one → P one) → P fault
+of_fault P (Ok b) fault same p = absurd cc
+of_fault P (Err e) fault same p = let stop : e ≡ stopped fault = cc in p fault stop

@@ -9,6 +9,7 @@ mod Begins
 mod BookLines
 mod CurveLines
 mod ContactPoints
+mod CurvesStage
 mod Cutting
 mod DrawingLines
 pub mod Examples
@@ -57,6 +58,8 @@ pub mod TorusExamples
 pub mod ValidLaw
 mod Settled
 mod SlideLines
+mod SlidesStage
 mod TwistLines
+mod TwistsStage
 mod WordLaws
 mod WordReaders

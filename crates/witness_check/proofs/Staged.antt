@@ -1,7 +1,7 @@
 -- Lines and sections of a text, passed one after another.
-use Rattle.std.proofs.Common.{◌≡◌, ℕ, zero, suc, ◌+◌, ◌-◌, ◌≤◌, ◌<◌, Bool, true, false, not, ◌&&◌, leb, le-leb, leb-true, inl, inr, cond, find, List, [], ◌∷◌, ◌++◌, length, map, take, Option, Some, None, refl, sym, ◌∙◌, ap, ap₂, subst, arith, length-append}
+use Rattle.std.proofs.Common.{◌≡◌, ℕ, zero, suc, ◌+◌, ◌-◌, ◌≤◌, ◌<◌, Bool, true, false, not, ◌&&◌, leb, le-leb, leb-true, eqb, append-nil, inl, inr, cond, find, List, [], ◌∷◌, ◌++◌, length, map, take, Option, Some, None, refl, sym, ◌∙◌, ap, ap₂, subst, arith, length-append}
 use Rattle.std.specs.Prelude.{option_map}
-use Rattle.std.specs.List.{enumerate_from}
+use Rattle.std.specs.List.{enumerate_from, list_all}
 use Rattle.std.proofs.lemmas.Bool.{and_parts}
 use Rattle.witness_check.specs.declared.certificate.Certificate.{Certificate}
 use Rattle.witness_check.specs.declared.checked.Checked.{Checked}
@@ -13,13 +13,15 @@ use Rattle.witness_check.specs.declared.fault.Refusal.{Refusal}
 use Rattle.witness_check.specs.declared.fault.Refusal.TheVariants.{Bad as badly, NoMemory as no_memory}
 use Rattle.witness_check.specs.Between.{After, Refutes}
 use Rattle.witness_check.specs.Checked.{answer_of, bad_line, checked, fault_or, first_bad, first_broken, first_fault, one_later}
-use Rattle.witness_check.specs.Forms.{Begun, LineForm, Section, after_first, after_row, begun_as, blank_rows, both, broken, guess, has_form, one, read_both, read_one, read_rows, rows, whole, write_rows}
+use Rattle.witness_check.specs.Forms.{Begun, LineForm, Section, after_first, after_row, begun_as, blank_rows, both, broken, guess, has_form, one, read_both, read_one, read_rows, rows, rows_fit, whole, write_rows}
 use Rattle.witness_check.specs.Lines.{counted, number_line}
 use Rattle.witness_check.specs.Passing.{Breaks, BreaksAt, CountRefused, LineRead, Lines, Passes, RowsRead, SectionRead, is_between, judged_from}
 use Rattle.witness_check.specs.Rules.{Rule, each, rule}
 use Rattle.witness_check.proofs.Passed.{section_breaks, section_breaks_faulty, section_faulty, section_passes}
 use Rattle.witness_check.proofs.Prefixes.{take_past, take_within}
 use Rattle.witness_check.proofs.Reading.{length_written}
+use Rattle.witness_check.proofs.Rows.{rows_section}
+use Rattle.witness_check.proofs.Sections.{IsLineForm}
 
 module _ {A B : Type 0} (s : Section A) (t : A → Section B) (own rest : Certificate → List (List Rule)) (fields : Certificate → A × B) (known : Certificate → Type 0) (text : List ℕ) (l0 : Lines)
     (after : After (both s t) (λ c. own c ++ rest c) fields known text l0) where
@@ -415,3 +417,19 @@ module _ {A B : Type 0} (many : List ℕ) (shape : LineForm A) (t : List A → S
   count_refuted l1 r (inr outside) =
       subst (Refutes text) (sym outside.3) (count_fault many shape t head own rest fields known text l0 after l1 outside.0 (rule reason false) outside.1
       (λ c k e. ap first_broken (ranged c k ∙ ap (λ z. rule reason z ∷ []) (ap (is_between least most) e ∙ outside.2))))
+
+-- rows that were read may be written
+fits_all : {A : Type 0} (shape : LineForm A) (i : ℕ) (xs ys : List A) → rows_fit (λ j. shape) i (xs ++ ys) ≡ true → list_all shape.fits xs ≡ true
+fits_all shape i [] ys fit = refl
+fits_all shape i (x ∷ xs) ys fit =
+    let both = and_parts (shape.fits x) (rows_fit (λ j. shape) (suc i) (xs ++ ys)) fit in
+    ap₂ (λ a b. a && b) both.0 (fits_all shape (suc i) xs ys both.1)
+
+pub rows_fitting : {A : Type 0} (shape : LineForm A) (law : IsLineForm shape) (n : ℕ) (l0 l1 : Lines) (xs : List A) (breaks : Option ℕ) → RowsRead (λ j. shape) n l0 l1 xs breaks → list_all shape.fits xs ≡ true
+rows_fitting shape law n l0 l1 xs None read =
+    let so = (rows_section (λ j. shape) n (λ j within. law)).only l0.left xs l1.left read.0 in
+    fits_all shape 0 xs [] (subst (λ zs. rows_fit (λ j. shape) 0 zs ≡ true) (sym (append-nil xs)) (and_parts (eqb (length xs) n) (rows_fit (λ j. shape) 0 xs) so.0).1)
+rows_fitting shape law n l0 l1 xs (Some line) read =
+    let more = blank_rows (λ j. shape) (length xs) (n - length xs) in
+    let so = (rows_section (λ j. shape) n (λ j within. law)).begun l0.left (xs ++ more) (length xs) read.0 in
+    fits_all shape 0 xs more (and_parts (eqb (length (xs ++ more)) n) (rows_fit (λ j. shape) 0 (xs ++ more)) so.0).1

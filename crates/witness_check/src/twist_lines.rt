@@ -3,6 +3,7 @@ ghost use Rattle.std.specs.Prelude.{◌≡◌, ◌≤◌, ◌<◌, ◌^◌, All,
 ghost use Rattle.std.specs.List.{position};
 ghost use Rattle.std.specs.Str.{bytes_eq};
 ghost use Rattle.curve_paths.specs.Curves.{IsCurve};
+ghost use Rattle.curve_paths.specs.Twists.{AreWords};
 ghost use Rattle.witness_check.specs.BookRules.{AreEntries, TwistsCome, WordsAre, curve_number, is_entry, numbered};
 ghost use Rattle.witness_check.specs.Rules.{is_power};
 ghost use Rattle.witness_check.specs.declared.fault.Fault.{Fault as Broken};
@@ -107,6 +108,7 @@ pub(crate) fn words_of(
     requires few { length twists.now ≤ 256 }
     requires curves { All (λ curve. IfSome curve (IsCurve surface.now.slid.polygon)) surface.now.slid.curves }
     ensures words { IfOk result (λ words. WordsAre surface.now.slid curves.now twists.now words) }
+    ensures of_strands { IfOk result (AreWords surface.now.slid.polygon) }
     ensures kept { OnOk result (TwistsCome surface.now.slid curves.now twists.now None) }
     ensures fault { IfErr result (λ stop. (fault : Broken) → stop ≡ Stop.Fault fault → TwistsCome surface.now.slid curves.now twists.now (Some fault)) }
 {
