@@ -1,11 +1,12 @@
 -- What is said of the lines from the pivots to the verdict, by what the lines before them give.
-use Rattle.std.specs.Prelude.{◌≡◌, ℕ, Bool, true, false, List, [], ◌++◌, length, Result, Ok, Err}
-use Rattle.obd_base.specs.declared.memory.NoMemory.{NoMemory}
+use Rattle.std.specs.Prelude.{◌≡◌, ℕ, suc, Bool, true, false, List, [], ◌∷◌, ◌++◌, length, Result, Ok, Err}
+use Rattle.obd_base.specs.declared.causes.NoMemory.{NoMemory}
 use Rattle.mod2_rank.specs.GivenPivots.{Reducing}
 use Rattle.mod2_rank.specs.PivotRules.{Reducer, reducers}
 use Rattle.mod2_rank.specs.declared.outcome.Pivot.{Pivot}
 use Rattle.witness_check.specs.declared.certificate.Certificate.{Certificate}
 use Rattle.witness_check.specs.declared.checked.Reason.{Reason}
+use Rattle.witness_check.specs.declared.checked.Reason.TheVariants.{Form as form}
 use Rattle.witness_check.specs.declared.fault.Refusal.{Refusal}
 use Rattle.witness_check.specs.declared.fault.Refusal.TheVariants.{Bad as badly, NoMemory as no_memory}
 use Rattle.witness_check.specs.Between.{After}
@@ -38,3 +39,7 @@ abbrev pub Untrue : Result Bool NoMemory → ℕ → Reason → Refusal → Type
 Untrue (Ok true) line reason refusal = ⊥
 Untrue (Ok false) line reason refusal = refusal ≡ badly line reason
 Untrue (Err e) line reason refusal = refusal ≡ no_memory
+
+-- a line is left, and is refused
+abbrev pub Follows : Lines → Refusal → Type 0
+Follows lines refusal = (line : List ℕ) × (more : List (List ℕ)) × (lines.left ≡ line ∷ more) × (refusal ≡ badly (suc lines.taken) form)

@@ -1,14 +1,14 @@
 // The stages from the pivots to the end of the text.
 ghost use Rattle.std.specs.Prelude.{◌≡◌, ◌<◌, ◌^◌, ◌*◌, ◌&&◌, ◌-ℤ◌, [], ℕ, List, Ok, length, map, nat_eq, pos, true, None, IfErr, IfOk, OnOk};
-ghost use Rattle.std.specs.Int.{int_eq};
 ghost use Rattle.std.specs.List.{list_all};
+ghost use Rattle.std.specs.Ordering.{int_eq};
 ghost use Rattle.mod2_rank.specs.Ascending.{AllAscend};
 ghost use Rattle.mod2_rank.specs.Linear.{is_empty};
 ghost use Rattle.mod2_rank.specs.PivotRules.{reduced_by, reducers};
 ghost use Rattle.witness_check.specs.Between.{AfterColumns, AfterHomology, AfterRank, AfterVerdict, Refutes};
 ghost use Rattle.witness_check.specs.Checked.{answer_of, checked};
 ghost use Rattle.witness_check.specs.DrawingRules.{Finds, Stops};
-ghost use Rattle.witness_check.specs.OutcomeRules.{AfterReducers, BeginsPivots, Untrue};
+ghost use Rattle.witness_check.specs.OutcomeRules.{AfterReducers, BeginsPivots, Follows, Untrue};
 ghost use Rattle.witness_check.specs.Rules.{each, pivot_rules};
 ghost use Rattle.witness_check.specs.declared.checked.Checked.TheVariants.{Valid as valid};
 
