@@ -50,9 +50,9 @@ module _ {A B : Type 0} (shape : LineForm A) (t : A → Section B) (own : Certif
   held_breaks r breaks = line_breaks shape t own rest fields known text l0 after r breaks
 
 -- what is tried says whether the rule is kept
-pub held_true : (P : Bool → Type 0) (tried : Result Bool NoMemory) → tried ≡ Ok true → IfOk tried P → P true
-held_true P (Ok b) is p = let same : b ≡ true = cc in subst P same p
-held_true P (Err e) is p = absurd cc
+pub held_true : {p : Bool} (tried : Result Bool NoMemory) → tried ≡ Ok true → IfOk tried (λ yes. yes ≡ p) → p ≡ true
+held_true (Ok b) is e = let same : b ≡ true = cc in sym e ∙ same
+held_true (Err e) is p = absurd cc
 
 -- what follows from what is said of a good result
 pub ok_then : {T E : Type 0} {P : T → Type 0} {Q : Type 0} (result : Result T E) → IfOk result P → ((a : T) → P a → Q) → OnOk result Q

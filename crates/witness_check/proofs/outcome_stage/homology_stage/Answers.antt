@@ -14,10 +14,10 @@ pub returns-clause-passed : goal.returns-clause-passed
 returns-clause-passed c =
     ok_then c.held.result c.held.ensures.made
     (λ made so columns text after. homology_passed columns c.args.rows c.args.rank text c.args.lines.now after c.next_homology.new.lines c.in_ok-homology.homology c.in_ok-homology.ensures.read
-    (sym (held_true _ (Ok c.is_homology.result) so.1 c.is_homology.ensures)))
+    (held_true (Ok c.is_homology-right.result) so.1 c.is_homology-right.ensures))
 
 pub returns-clause-refuted : goal.returns-clause-refuted
 returns-clause-refuted c =
     err_on c.held.result c.held.ensures.refused
-    (λ refusal untrue columns text after. homology_refuted columns c.args.rows c.args.rank text c.args.lines.now after c.next_homology.new.lines c.in_ok-homology.homology c.number-line.result (Ok c.is_homology.result) refusal
-    c.in_ok-homology.ensures.read c.number-line.ensures.value c.is_homology.ensures untrue)
+    (λ refusal untrue columns text after. homology_refuted columns c.args.rows c.args.rank text c.args.lines.now after c.next_homology.new.lines c.in_ok-homology.homology c.number-line.result (Ok c.is_homology-right.result) refusal
+    c.in_ok-homology.ensures.read c.number-line.ensures.value c.is_homology-right.ensures untrue)

@@ -15,10 +15,10 @@ pub returns-clause-passed : goal.returns-clause-passed
 returns-clause-passed c =
     ok_on c.held.result c.held.ensures.made
     (λ made so text after. subst (λ r. AfterRank (rows_of c.args.columns.now) c.args.reducers.now.rows r text c.next_number.new.lines) (sym so.0)
-    (rank_passed (rows_of c.args.columns.now) c.args.reducers.now text c.args.lines.now after c.next_number.new.lines c.in_ok-rank.rank c.in_ok-rank.ensures.read (sym (held_true _ c.is_rank.result so.1 c.is_rank.ensures))))
+    (rank_passed (rows_of c.args.columns.now) c.args.reducers.now text c.args.lines.now after c.next_number.new.lines c.in_ok-rank.rank c.in_ok-rank.ensures.read (held_true c.is_rank-tried.result so.1 c.is_rank-tried.ensures)))
 
 pub returns-clause-refuted : goal.returns-clause-refuted
 returns-clause-refuted c =
     err_on c.held.result c.held.ensures.refused
-    (λ refusal untrue text after. rank_refuted (rows_of c.args.columns.now) c.args.reducers.now text c.args.lines.now after c.next_number.new.lines c.in_ok-rank.rank c.number-line.result c.is_rank.result refusal
-    c.in_ok-rank.ensures.read c.number-line.ensures.value c.is_rank.ensures untrue)
+    (λ refusal untrue text after. rank_refuted (rows_of c.args.columns.now) c.args.reducers.now text c.args.lines.now after c.next_number.new.lines c.in_ok-rank.rank c.number-line.result c.is_rank-tried.result refusal
+    c.in_ok-rank.ensures.read c.number-line.ensures.value c.is_rank-tried.ensures untrue)

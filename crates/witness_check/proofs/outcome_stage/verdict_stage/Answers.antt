@@ -14,10 +14,10 @@ pub returns-clause-passed : goal.returns-clause-passed
 returns-clause-passed c =
     ok_on c.held.result c.held.ensures.made
     (λ made so text after. verdict_passed (rows_of c.args.columns.now) c.args.rows text c.args.lines.now after c.next_verdict.new.lines c.in_ok-verdict.verdict made c.in_ok-verdict.ensures.read
-    (sym (held_true _ c.is_verdict.result so.1 c.is_verdict.ensures)) (so.0 ∙ c.answer_of.ensures))
+    (held_true c.is_verdict-tried.result so.1 c.is_verdict-tried.ensures) (so.0 ∙ c.answer_of.ensures))
 
 pub returns-clause-refuted : goal.returns-clause-refuted
 returns-clause-refuted c =
     err_on c.held.result c.held.ensures.refused
-    (λ refusal untrue text after. verdict_refuted (rows_of c.args.columns.now) c.args.rows text c.args.lines.now after c.next_verdict.new.lines c.in_ok-verdict.verdict c.number-line.result c.is_verdict.result refusal
-    c.in_ok-verdict.ensures.read c.number-line.ensures.value c.is_verdict.ensures untrue)
+    (λ refusal untrue text after. verdict_refuted (rows_of c.args.columns.now) c.args.rows text c.args.lines.now after c.next_verdict.new.lines c.in_ok-verdict.verdict c.number-line.result c.is_verdict-tried.result refusal
+    c.in_ok-verdict.ensures.read c.number-line.ensures.value c.is_verdict-tried.ensures untrue)
