@@ -1,10 +1,11 @@
 -- A given verdict: numbers that ascend as a test, the sum of some columns, and the contact row alone.
-use Rattle.std.proofs.Common.{◌≡◌, ℕ, suc, ◌+◌, ◌<◌, ◌≤◌, Bool, true, false, ltb, leb, List, [], ◌∷◌, ◌++◌, length, get_or, take, Option, Some, None, IfSome, IfNone, is_some, not, sym, ◌∙◌, ap, subst, arith}
+use Rattle.std.proofs.Common.{◌≡◌, ℕ, suc, ◌+◌, ◌<◌, ◌≤◌, Bool, true, false, ltb, leb, List, [], ◌∷◌, ◌++◌, length, get_or, map, take, Option, Some, None, IfSome, IfNone, is_some, not, sym, ◌∙◌, ap, subst, arith}
 use Rattle.std.specs.List.{list_all}
 use Rattle.std.proofs.lemmas.Bool.{and_from, and_parts, false_from_ne_true, false≢true, leb-true, ltb-true, true≢false}
-use Rattle.std.proofs.lemmas.List.{get_or_read, map_push, take_all, take_more}
+use Rattle.std.proofs.lemmas.List.{length-map, map_push, take_all, take_more}
 use Rattle.std.proofs.lemmas.List.Folds.{list_all_at, list_all_more}
 use Rattle.obd_base.specs.Lists.{has}
+use Rattle.obd_base.specs.declared.points.Column.{Column}
 use Rattle.mod2_rank.specs.Ascending.{AllAscend}
 use Rattle.mod2_rank.specs.Linear.{Ascends, column_at, columns_at, same_list, sum_of}
 use Rattle.mod2_rank.specs.PivotLines.{ascend_between}
@@ -13,6 +14,7 @@ use Rattle.mod2_rank.proofs.Ascending.{same_ascending, sum_of_ascends, sum_of_is
 use Rattle.mod2_rank.proofs.ColumnSteps.{ascends_all}
 use Rattle.mod2_rank.proofs.Columns.{column_ascends}
 use Rattle.mod2_rank.proofs.Members.{same_list_itself, same_list_true}
+use Rattle.mod2_rank.proofs.PivotLists.{read_map}
 use Rattle.mod2_rank.proofs.Reducing.{odd_times_ascending}
 use Rattle.mod2_rank.proofs.Vectors.{plus_assoc, plus_itself, plus_none, same_from_plus}
 
@@ -24,9 +26,28 @@ ascend_true (x ∷ xs) low high h =
     let (r, s) = and_parts (ltb x high) _ q in
     (leb-true low x p, ltb-true x high r, ascend_true xs (suc x) high s)
 
+-- the rows of columns
+abbrev pub rows_of : List Column → List (List ℕ)
+rows_of columns = map (λ (c : Column). c.rows) columns
+
+-- they are as many
+pub rows_count : (cs : List Column) → length (rows_of cs) ≡ length cs
+rows_count cs = length-map cs (λ (c : Column). c.rows)
+
+pub rows_inside : (cs : List Column) (i : ℕ) → i < length cs → i < length (rows_of cs)
+rows_inside cs i l = omega (arith, l, rows_count cs)
+
 -- a column, as it is read
-pub column_read : (cs : List (List ℕ)) (i : ℕ) (x c : List ℕ) → i < length cs → x ≡ get_or cs i x → c ≡ x → c ≡ column_at cs i
-column_read cs i x c l e f = f ∙ get_or_read cs i x l e []
+pub column_read : (cs : List Column) (i : ℕ) (x : Column) (c : List ℕ) → i < length cs → x ≡ get_or cs i x → c ≡ x.rows → c ≡ column_at (rows_of cs) i
+column_read cs i x c l e f = f ∙ read_map (λ (c : Column). c.rows) cs i x [] l e
+
+-- or as it is lent
+pub lent_read : (cs : List Column) (i : ℕ) (x : Column) (c : List ℕ) → i < length cs → x ≡ get_or cs i x → c ≡ (get_or cs i x).rows → c ≡ column_at (rows_of cs) i
+lent_read cs i x c l e f = column_read cs i x c l e (f ∙ sym (ap (λ (z : Column). z.rows) e))
+
+-- all columns, where the first ones are no fewer
+pub all_taken : (p : List ℕ → Bool) (cs : List Column) (i : ℕ) → length cs ≤ i → list_all p (take i (rows_of cs)) ≡ true → true ≡ list_all p (rows_of cs)
+all_taken p cs i l e = sym e ∙ ap (list_all p) (take_all i (rows_of cs) (omega (arith, l, rows_count cs)))
 
 -- the numbers of a column are rows
 pub rows_fit : (rows room : ℕ) (cs : List (List ℕ)) (i : ℕ) (c : List ℕ) → AllAscend rows cs → c ≡ column_at cs i → rows ≤ room → (k d : ℕ) → k < length c → get_or c k d < room

@@ -17,6 +17,7 @@ pub mod FunctionalLaw
 pub mod GivenPivots
 pub mod GivenVerdict
 pub mod Laws
+pub mod Increasing
 pub mod Lean
 pub mod LeanChain
 pub mod LeanOutcome

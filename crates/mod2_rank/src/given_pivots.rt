@@ -1,5 +1,5 @@
 // Pivots that anybody may have written, held to their rules one after another, and what they leave of columns.
-ghost use Rattle.std.specs.Prelude.{◌≡◌, ℕ, ◌+◌, ◌<◌, ◌≤◌, ◌*◌, ◌^◌, ◌++◌, ◌&&◌, ◌∷◌, List, [], nat_le, nat_lt, true, false, length, All, is_some, IfOk, IfErr, IfSome, OnOk};
+ghost use Rattle.std.specs.Prelude.{◌≡◌, ℕ, ◌+◌, ◌<◌, ◌≤◌, ◌*◌, ◌^◌, ◌++◌, ◌&&◌, ◌∷◌, List, [], nat_le, nat_lt, true, false, length, map, All, is_some, IfOk, IfErr, IfSome, OnOk};
 ghost use Rattle.std.specs.List.{list_all};
 ghost use Rattle.obd_base.specs.Lists.{has};
 ghost use Rattle.mod2_rank.specs.Ascending.{AllAscend};
@@ -14,7 +14,7 @@ use crate::blocks::Blocks;
 use crate::one_column::take_rows;
 use crate::outcome::Pivot;
 use crate::row_set::RowSet;
-use obd_base::{Items, NoMemory};
+use obd_base::{Column, NoMemory};
 use std::alloc::Global;
 use std::marker::Model;
 
@@ -83,16 +83,16 @@ impl Reducers {
     /// `(rows + pivots) / 4096`. Memory: the reduced columns, and a few words for each row and pivot.
     pub fn of(
         alloc: Global,
-        columns: &[Items<u32>],
+        columns: &[Column],
         rows: u32,
         pivots: &[Pivot],
     ) -> Result<Reducers, PivotRefusal>
         requires few { length columns.now < 2 ^ 32 }
         requires few_pivots { length pivots.now < 2 ^ 32 }
-        requires ascend { AllAscend rows columns.now }
-        ensures value { IfOk result (λ made. made ≡ record { rows = rows; list = reducers rows columns.now [] pivots.now }) }
-        ensures passes { OnOk result (PassUpTo rows columns.now pivots.now (length pivots.now)) }
-        ensures bad { IfErr result (λ refusal. (at : ℕ) → refusal ≡ PivotRefusal.Bad at → IsFirstBad rows columns.now pivots.now at) }
+        requires ascend { AllAscend rows (map (λ column. column.rows) columns.now) }
+        ensures value { IfOk result (λ made. made ≡ record { rows = rows; list = reducers rows (map (λ column. column.rows) columns.now) [] pivots.now }) }
+        ensures passes { OnOk result (PassUpTo rows (map (λ column. column.rows) columns.now) pivots.now (length pivots.now)) }
+        ensures bad { IfErr result (λ refusal. (at : ℕ) → refusal ≡ PivotRefusal.Bad at → IsFirstBad rows (map (λ column. column.rows) columns.now) pivots.now at) }
     {
         let mut left = RowSet::new(alloc, rows)?;
         let mut called = RowSet::new(alloc, pivots.len() as u32)?;
@@ -112,14 +112,14 @@ impl Reducers {
     ///
     /// Refuses only for want of memory. The cost is linear in the rows added, the rows of the columns, and for each column
     /// `(rows + pivots) / 4096`. Memory: two bits for each row and each pivot.
-    pub fn reduce_all(&self, alloc: Global, columns: &[Items<u32>]) -> Result<bool, NoMemory>
-        requires ascend { AllAscend self.now.rows columns.now }
-        ensures { IfOk result (λ yes. yes ≡ list_all (λ c. is_empty (reduced_by self.now.rows self.now.list c)) columns.now) }
+    pub fn reduce_all(&self, alloc: Global, columns: &[Column]) -> Result<bool, NoMemory>
+        requires ascend { AllAscend self.now.rows (map (λ column. column.rows) columns.now) }
+        ensures { IfOk result (λ yes. yes ≡ list_all (λ c. is_empty (reduced_by self.now.rows self.now.list c)) (map (λ column. column.rows) columns.now)) }
     {
         let mut left = RowSet::new(alloc, self.rows())?;
         let mut called = RowSet::new(alloc, self.count())?;
         for column in columns {
-            self.reduce(&mut left, &mut called, column.as_slice());
+            self.reduce(&mut left, &mut called, column.rows.as_slice());
             if left.least_from(0).is_some() {
                 return Ok(false);
             }
@@ -186,8 +186,8 @@ impl Reducers {
         self.pivot_of.as_slice().len() as u32
     }
 
-    // The number of pivots.
-    fn count(&self) -> u32
+    /// The number of pivots. Constant time.
+    pub fn count(&self) -> u32
         ensures { result ≡ length self.now.list }
     {
         self.pivot_rows.as_slice().len() as u32
@@ -229,28 +229,28 @@ impl Reducers {
         self,
         left: &mut RowSet,
         called: &mut RowSet,
-        columns: &[Items<u32>],
+        columns: &[Column],
         low: u32,
         pivot: Pivot,
     ) -> Result<Option<Reducers>, NoMemory>
         requires few { length self.list + 1 < 2 ^ 32 }
         requires left { self.rows ≤ length left.old * 64 }
         requires room { length self.list ≤ length called.old * 64 }
-        requires ascend { AllAscend self.rows columns.now }
+        requires ascend { AllAscend self.rows (map (λ column. column.rows) columns.now) }
         requires empty { row_in left.old ≡ none }
         requires none_called { row_in called.old ≡ none }
         ensures left { length left.new ≡ length left.old }
         ensures room { length called.new ≡ length called.old }
-        ensures passes { IfOk result (λ next. is_some next ≡ pivot_line_passes self.rows columns.now low self.list pivot) }
+        ensures passes { IfOk result (λ next. is_some next ≡ pivot_line_passes self.rows (map (λ column. column.rows) columns.now) low self.list pivot) }
         ensures made { IfOk result (λ next. IfSome next (λ made.
-            made ≡ record { rows = self.rows; list = self.list ++ reducer self.rows columns.now self.list pivot ∷ [] })) }
+            made ≡ record { rows = self.rows; list = self.list ++ reducer self.rows (map (λ column. column.rows) columns.now) self.list pivot ∷ [] })) }
         ensures empty { IfOk result (λ next. IfSome next (λ made. row_in left.new ≡ none)) }
         ensures none_called { IfOk result (λ next. IfSome next (λ made. row_in called.new ≡ none)) }
     {
         if !is_in_range(pivot, low, columns.len(), self.rows()) {
             return Ok(None);
         }
-        self.reduce(left, called, columns[pivot.column as usize].as_slice());
+        self.reduce(left, called, columns[pivot.column as usize].rows.as_slice());
         if !left.has(pivot.row) {
             return Ok(None);
         }

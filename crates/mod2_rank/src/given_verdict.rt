@@ -1,5 +1,5 @@
 // A verdict that anybody may have written, held to its rules.
-ghost use Rattle.std.specs.Prelude.{◌≡◌, ◌-◌, ◌<◌, ◌≤◌, ◌*◌, ◌&&◌, ◌∷◌, [], length, IfOk};
+ghost use Rattle.std.specs.Prelude.{◌≡◌, ◌-◌, ◌<◌, ◌≤◌, ◌*◌, ◌&&◌, ◌∷◌, [], length, map, IfOk};
 ghost use Rattle.std.specs.List.{list_all};
 ghost use Rattle.obd_base.specs.Lists.{has};
 ghost use Rattle.mod2_rank.specs.Ascending.{AllAscend};
@@ -11,7 +11,7 @@ ghost use Rattle.mod2_rank.specs.RowWords.{row_in};
 use crate::outcome::Verdict;
 use crate::row_set::RowSet;
 use crate::written::is_odd_in;
-use obd_base::{Items, NoMemory};
+use obd_base::{Column, NoMemory};
 use std::alloc::Global;
 
 // Whether the numbers ascend below a bound.
@@ -30,28 +30,28 @@ fn do_ascend(numbers: &[u32], high: usize) -> bool
 }
 
 // Adds the columns of these numbers, which ascend.
-fn add_columns(sum: &mut RowSet, columns: &[Items<u32>], rows: u32, numbers: &[u32])
+fn add_columns(sum: &mut RowSet, columns: &[Column], rows: u32, numbers: &[u32])
     requires room { rows ≤ length sum.old * 64 }
-    requires ascend { AllAscend rows columns.now }
+    requires ascend { AllAscend rows (map (λ column. column.rows) columns.now) }
     requires numbers { Ascends 0 (length columns.now) numbers.now }
     ensures room { length sum.new ≡ length sum.old }
-    ensures rows { row_in sum.new ≡ plus (row_in sum.old) (has (sum_of rows (columns_at columns.now numbers.now))) }
+    ensures rows { row_in sum.new ≡ plus (row_in sum.old) (has (sum_of rows (columns_at (map (λ column. column.rows) columns.now) numbers.now))) }
 {
     for number in numbers {
-        sum.add(columns[*number as usize].as_slice());
+        sum.add(columns[*number as usize].rows.as_slice());
     }
 }
 
 // Whether the columns of these numbers, which are to ascend, have the contact row alone as sum.
 fn is_chain(
     alloc: Global,
-    columns: &[Items<u32>],
+    columns: &[Column],
     rows: u32,
     chain: &[u32],
 ) -> Result<bool, NoMemory>
     requires some { 0 < rows }
-    requires ascend { AllAscend rows columns.now }
-    ensures { IfOk result (λ yes. yes ≡ (ascend_between 0 (length columns.now) chain.now && same_list (sum_of rows (columns_at columns.now chain.now)) ((rows - 1) ∷ []))) }
+    requires ascend { AllAscend rows (map (λ column. column.rows) columns.now) }
+    ensures { IfOk result (λ yes. yes ≡ (ascend_between 0 (length columns.now) chain.now && same_list (sum_of rows (columns_at (map (λ column. column.rows) columns.now) chain.now)) ((rows - 1) ∷ []))) }
 {
     if !do_ascend(chain, columns.len()) {
         return Ok(false);
@@ -63,14 +63,14 @@ fn is_chain(
 }
 
 // Whether each column has an even number of rows in the set.
-fn all_even(set: &RowSet, columns: &[Items<u32>], rows: u32, functional: &[u32]) -> bool
+fn all_even(set: &RowSet, columns: &[Column], rows: u32, functional: &[u32]) -> bool
     requires room { rows ≤ length set.now * 64 }
-    requires ascend { AllAscend rows columns.now }
+    requires ascend { AllAscend rows (map (λ column. column.rows) columns.now) }
     requires set { row_in set.now ≡ has functional.now }
-    ensures { result ≡ list_all (meets_evenly functional.now) columns.now }
+    ensures { result ≡ list_all (meets_evenly functional.now) (map (λ column. column.rows) columns.now) }
 {
     for column in columns {
-        if is_odd_in(set, column.as_slice()) {
+        if is_odd_in(set, column.rows.as_slice()) {
             return false;
         }
     }
@@ -80,13 +80,13 @@ fn all_even(set: &RowSet, columns: &[Items<u32>], rows: u32, functional: &[u32])
 // Whether the rows, which are to ascend, hold the contact row and meet every column evenly.
 fn is_functional(
     alloc: Global,
-    columns: &[Items<u32>],
+    columns: &[Column],
     rows: u32,
     functional: &[u32],
 ) -> Result<bool, NoMemory>
     requires some { 0 < rows }
-    requires ascend { AllAscend rows columns.now }
-    ensures { IfOk result (λ yes. yes ≡ (ascend_between 0 rows functional.now && (has functional.now (rows - 1) && list_all (meets_evenly functional.now) columns.now))) }
+    requires ascend { AllAscend rows (map (λ column. column.rows) columns.now) }
+    ensures { IfOk result (λ yes. yes ≡ (ascend_between 0 rows functional.now && (has functional.now (rows - 1) && list_all (meets_evenly functional.now) (map (λ column. column.rows) columns.now)))) }
 {
     if !do_ascend(functional, rows as usize) {
         return Ok(false);
@@ -108,13 +108,13 @@ fn is_functional(
 /// columns, for a functional) and `rows / 64`. Memory: a bit for each row.
 pub fn is_verdict(
     alloc: Global,
-    columns: &[Items<u32>],
+    columns: &[Column],
     rows: u32,
     verdict: &Verdict,
 ) -> Result<bool, NoMemory>
     requires some { 0 < rows }
-    requires ascend { AllAscend rows columns.now }
-    ensures { IfOk result (λ yes. yes ≡ verdict_line_passes rows columns.now verdict.now) }
+    requires ascend { AllAscend rows (map (λ column. column.rows) columns.now) }
+    ensures { IfOk result (λ yes. yes ≡ verdict_line_passes rows (map (λ column. column.rows) columns.now) verdict.now) }
 {
     match verdict {
         Verdict::Chain(chain) => is_chain(alloc, columns, rows, chain.as_slice()),

@@ -1,5 +1,5 @@
 // What no clause says: that the elimination and the checks of given pivots and verdicts end well at worked columns.
-ghost use Rattle.std.specs.Prelude.{◌≡◌, ◌<◌, ◌^◌, length, IfOk};
+ghost use Rattle.std.specs.Prelude.{◌≡◌, ◌<◌, ◌^◌, length, map, IfOk};
 ghost use Rattle.mod2_rank.specs.Ascending.{AllAscend};
 
 use crate::{Pivot, PivotRefusal, Reducers, Verdict, eliminate, is_verdict};
@@ -79,10 +79,10 @@ enum Told {
 }
 
 // What pivots tell of columns over three rows.
-fn checked(alloc: Global, columns: &[Items<u32>], pivots: &[Pivot]) -> Result<Told, NoMemory>
+fn checked(alloc: Global, columns: &[Column], pivots: &[Pivot]) -> Result<Told, NoMemory>
     requires few { length columns.now < 2 ^ 32 }
     requires few_pivots { length pivots.now < 2 ^ 32 }
-    requires ascend { AllAscend 3 columns.now }
+    requires ascend { AllAscend 3 (map (λ column. column.rows) columns.now) }
 {
     match Reducers::of(alloc, columns, 3, pivots) {
         Ok(reducers) if reducers.reduce_all(alloc, columns)? => Ok(Told::Complete),
@@ -96,9 +96,9 @@ fn checked(alloc: Global, columns: &[Items<u32>], pivots: &[Pivot]) -> Result<To
 fn given_pivots_of_a_triangle(rt: HostRuntime) -> Result<(), Fail> {
     let alloc = rt.alloc();
     let columns = [
-        items(alloc, &[0, 1])?,
-        items(alloc, &[0, 2])?,
-        items(alloc, &[1, 2])?,
+        column(alloc, &[0, 1])?,
+        column(alloc, &[0, 2])?,
+        column(alloc, &[1, 2])?,
     ];
     for (pivots, wanted) in [
         ([pivot(0, 0), pivot(1, 1)], Told::Complete),
@@ -119,9 +119,9 @@ fn given_pivots_of_a_triangle(rt: HostRuntime) -> Result<(), Fail> {
 fn given_chains(rt: HostRuntime) -> Result<(), Fail> {
     let alloc = rt.alloc();
     let columns = [
-        items(alloc, &[1])?,
-        items(alloc, &[1, 2])?,
-        items(alloc, &[])?,
+        column(alloc, &[1])?,
+        column(alloc, &[1, 2])?,
+        column(alloc, &[])?,
     ];
     for (numbers, wanted) in [
         ([0, 1].as_slice(), true),
@@ -140,9 +140,9 @@ fn given_chains(rt: HostRuntime) -> Result<(), Fail> {
 fn given_functionals(rt: HostRuntime) -> Result<(), Fail> {
     let alloc = rt.alloc();
     let columns = [
-        items(alloc, &[0, 1])?,
-        items(alloc, &[0, 2])?,
-        items(alloc, &[1, 2])?,
+        column(alloc, &[0, 1])?,
+        column(alloc, &[0, 2])?,
+        column(alloc, &[1, 2])?,
     ];
     for (numbers, wanted) in [
         ([0, 1, 2].as_slice(), true),

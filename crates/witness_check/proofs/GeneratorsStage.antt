@@ -124,3 +124,10 @@ module _ (d : Drawing) (count : ℕ) (text : List ℕ) (l0 : Lines) (after : Aft
     contact_refuted first fault r at few found is =
         line_refutes (contact_line (arc_count d.polygon)) last contact_rules pivots_on_rules contact_fields (HasGenerators d count) text l0 after l1 (contact, points) read first fault r at few
         (λ c k e. found c (told c k e)) is
+
+-- the number of generators, as it is counted
+pub generators_as : (d : Drawing) (n m : ℕ) (text : List ℕ) (lines : Lines) → n ≡ m → AfterGenerators d m text lines → AfterGenerators d n text lines
+generators_as d n m text lines same after = subst (λ k. AfterGenerators d k text lines) (sym same) after
+
+pub drawing_as : (d : Drawing) (n m : ℕ) (text : List ℕ) (lines : Lines) → n ≡ m → AfterDrawing d n text lines → AfterDrawing d m text lines
+drawing_as d n m text lines same after = subst (λ k. AfterDrawing d k text lines) same after

@@ -1,7 +1,9 @@
 -- What is said of a result, said of it in other words.
-use Rattle.std.proofs.Common.{◌≡◌, ℕ, List, Option, Some, sym, subst}
+use Rattle.std.proofs.Common.{◌≡◌, ℕ, List, Option, Some, map, sym, subst}
 use Rattle.std.specs.Prelude.{Result, Ok, Err, IfErr, IfOk, IsErrAnd, OnOk}
+use Rattle.obd_base.specs.declared.points.Column.{Column}
 use Rattle.page_surface.specs.Polygon.{Polygon}
+use Rattle.mod2_rank.specs.Ascending.{AllAscend}
 use Rattle.witness_check.specs.Between.{AfterBook}
 use Rattle.witness_check.specs.Forms.{LineForm}
 use Rattle.witness_check.specs.Passing.{Lines, RowsRead}
@@ -49,3 +51,8 @@ if_ok P (Err e) a same p = absurd cc
 pub of_fault : {T : Type 0} (P : Fault → Type 0) (result : Result T Stop) (fault : Fault) → result ≡ Err (stopped fault) → IfErr result (λ stop. (one : Fault) → stop ≡ stopped one → P one) → P fault
 of_fault P (Ok b) fault same p = absurd cc
 of_fault P (Err e) fault same p = let stop : e ≡ stopped fault = cc in p fault stop
+
+-- columns in a list that is lent ascend
+pub lent_columns : (lent found : List Column) (rows count : ℕ) → lent ≡ found → rows ≡ count → AllAscend count (map (λ column. column.rows) found) → AllAscend rows (map (λ column. column.rows) lent)
+lent_columns lent found rows count same size ascend =
+    subst (λ (cs : List Column). AllAscend rows (map (λ column. column.rows) cs)) (sym same) (subst (λ n. AllAscend n (map (λ column. column.rows) found)) (sym size) ascend)

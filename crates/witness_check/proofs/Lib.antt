@@ -36,6 +36,8 @@ mod LineWords
 mod NumberWords
 mod Numbered
 mod OutcomeLines
+mod OneRule
+mod OutcomeStage
 mod LinesTaken
 mod Loops
 mod ParseLaw

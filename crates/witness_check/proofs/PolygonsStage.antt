@@ -1,5 +1,5 @@
 -- The lines of the polygons.
-use Rattle.std.proofs.Common.{◌≡◌, ℕ, suc, ◌+◌, ◌<◌, ◌^◌, true, List, [], ◌∷◌, ◌++◌, length, codes, Option, Some, None, refl, sym, ◌∙◌, ap, subst, append-nil}
+use Rattle.std.proofs.Common.{◌≡◌, ℕ, suc, ◌+◌, ◌<◌, ◌^◌, true, List, [], ◌++◌, length, codes, Option, Some, None, refl, sym, ◌∙◌, ap, subst, append-nil}
 use Rattle.std.specs.Prelude.{Result, IfErr, OnOk}
 use Rattle.page_surface.specs.Labels.{Label}
 use Rattle.witness_check.specs.declared.certificate.Certificate.{Certificate}
@@ -17,7 +17,7 @@ use Rattle.witness_check.specs.Lines.{number_line, polygon_line}
 use Rattle.witness_check.specs.Passing.{CountRefused, Lines, RowsRead, SectionRead, is_between}
 use Rattle.witness_check.specs.Rules.{each, polygon_count, polygon_rules}
 use Rattle.witness_check.specs.RulesOn.{curves_on_rules}
-use Rattle.witness_check.specs.Settling.{Behind, Settles}
+use Rattle.witness_check.specs.Settling.{Settles}
 use Rattle.witness_check.specs.Stages.{curves_on}
 use Rattle.witness_check.proofs.HandedOn.{of_fault, of_ok}
 use Rattle.witness_check.proofs.PolygonLines.{polygons_begun}

@@ -11,6 +11,7 @@ pub mod Line
 pub mod Lines
 pub mod Meaning
 pub mod OpenBook
+pub mod OutcomeRules
 pub mod Parsing
 pub mod Passing
 pub mod Reading

@@ -34,11 +34,7 @@ impl Drop for Curves {
 }
 
 /// Reads the lines of the curves: the curves on the page. The cost is that of `curves_of`.
-pub(crate) fn curves_stage(
-    alloc: Global,
-    lines: &mut Lines,
-    page: &Page,
-) -> Result<Curves, Refusal>
+pub(crate) fn curves_stage(alloc: Global, lines: &mut Lines, page: &Page) -> Result<Curves, Refusal>
     ensures passed { IfOk result (λ curves. (text : List ℕ) → AfterPolygons page.now text lines.old → AfterCurves page.now curves.named text lines.new) }
     ensures on_page { IfOk result (λ curves. curves.on_page ≡ on_page page.now curves.named) }
     ensures page { IfOk result (λ curves. All (λ curve. curve.page ≡ page.now) curves.on_page) }

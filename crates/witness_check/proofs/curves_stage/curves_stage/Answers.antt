@@ -1,10 +1,10 @@
-use Rattle.std.proofs.Common.{◌≡◌, ◌≤◌, length, subst, sym}
+use Rattle.std.proofs.Common.{subst}
 use Rattle.witness_check.specs.Between.{AfterCurves}
 use Rattle.witness_check.specs.Lines.{curve_line}
 use Rattle.witness_check.proofs.CurveLines.{have_occurrences}
 use Rattle.witness_check.proofs.LineLaws.{curve_law}
 use Rattle.witness_check.proofs.CurvesStage.{curves_passed, curves_refuted, curves_uncounted}
-use Rattle.witness_check.proofs.HandedOn.{err_of, err_on, if_ok, lent_rows, of_ok, ok_on}
+use Rattle.witness_check.proofs.HandedOn.{err_of, lent_rows, of_ok}
 use Rattle.witness_check.proofs.Staged.{rows_at_most, rows_fitting}
 use Rattle.witness_check.proofs.curves_stage.curves_stage.Goals as goal
 
@@ -27,15 +27,17 @@ pub returns-in_err-on_page-clause-refuted : goal.returns-in_err-on_page-clause-r
 returns-in_err-on_page-clause-refuted c =
     err_of _ c.in_err-on_page.field-0.0 c.from_residual-in_err-on_page.result c.from_residual-in_err-on_page.ensures.1
     (λ text after. curves_refuted c.args.page.now text c.args.lines.now after c.next_count.new.lines c.read_rows.new.lines c.in_ok-count.count c.as_slice.result.now c.in_ok-rows.rows.breaks
-      c.in_ok-count.ensures.read c.in_ok-count.ensures.within (lent_rows (λ i. curve_line) c.in_ok-count.count c.next_count.new.lines c.read_rows.new.lines c.in_ok-rows.rows.items c.as_slice.result.now c.in_ok-rows.rows.breaks c.as_slice.ensures c.in_ok-rows.ensures)
-      c.number-first.result c.curves_of-found.result c.in_err-on_page.field-0.0 c.number-first.ensures.value c.number-first.ensures.few c.curves_of-found.ensures.kept c.curves_of-found.ensures.fault c.in_err-on_page.ensures.refused)
+    c.in_ok-count.ensures.read c.in_ok-count.ensures.within
+    (lent_rows (λ i. curve_line) c.in_ok-count.count c.next_count.new.lines c.read_rows.new.lines c.in_ok-rows.rows.items c.as_slice.result.now c.in_ok-rows.rows.breaks c.as_slice.ensures c.in_ok-rows.ensures)
+    c.number-first.result c.curves_of-found.result c.in_err-on_page.field-0.0 c.number-first.ensures.value c.number-first.ensures.few c.curves_of-found.ensures.kept c.curves_of-found.ensures.fault c.in_err-on_page.ensures.refused)
 
 pub returns-clause-passed : goal.returns-clause-passed
 returns-clause-passed c text after =
     subst (λ xs. AfterCurves c.args.page.now xs text c.read_rows.new.lines) c.as_slice.ensures
     (curves_passed c.args.page.now text c.args.lines.now after c.next_count.new.lines c.read_rows.new.lines c.in_ok-count.count c.as_slice.result.now c.in_ok-rows.rows.breaks
-      c.in_ok-count.ensures.read c.in_ok-count.ensures.within (lent_rows (λ i. curve_line) c.in_ok-count.count c.next_count.new.lines c.read_rows.new.lines c.in_ok-rows.rows.items c.as_slice.result.now c.in_ok-rows.rows.breaks c.as_slice.ensures c.in_ok-rows.ensures)
-      c.in_ok-on_page.ensures.made.1 (of_ok c.curves_of-found.result c.in_ok-on_page.on_page c.in_ok-on_page.ensures.made.0 c.curves_of-found.ensures.kept))
+    c.in_ok-count.ensures.read c.in_ok-count.ensures.within
+    (lent_rows (λ i. curve_line) c.in_ok-count.count c.next_count.new.lines c.read_rows.new.lines c.in_ok-rows.rows.items c.as_slice.result.now c.in_ok-rows.rows.breaks c.as_slice.ensures c.in_ok-rows.ensures)
+    c.in_ok-on_page.ensures.made.1 (of_ok c.curves_of-found.result c.in_ok-on_page.on_page c.in_ok-on_page.ensures.made.0 c.curves_of-found.ensures.kept))
 
 pub returns-clause-few : goal.returns-clause-few
 returns-clause-few c =

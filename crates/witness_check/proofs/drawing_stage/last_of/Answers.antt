@@ -3,7 +3,7 @@ use Rattle.witness_check.proofs.drawing_stage.last_of.Goals as goal
 
 pub returns-in_err-moved-clause-refuted : goal.returns-in_err-moved-clause-refuted
 returns-in_err-moved-clause-refuted c =
-    err_of _ c.in_err-moved.field-0.0 c.from_residual-2.result c.from_residual-2.ensures.1
+    err_of _ c.in_err-moved.field-0.0 c.from_residual-in_err-moved.result c.from_residual-in_err-moved.ensures.1
     (λ text after. c.in_err-moved.ensures.refuted text (c.in_ok-drawn.ensures.passed text after))
 
 pub returns-clause-passed : goal.returns-clause-passed

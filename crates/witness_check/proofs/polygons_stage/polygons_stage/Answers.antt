@@ -1,4 +1,4 @@
-use Rattle.std.proofs.Common.{None, subst, ◌≡◌, ◌≤◌, length}
+use Rattle.std.proofs.Common.{subst}
 use Rattle.witness_check.specs.Lines.{polygon_line}
 use Rattle.witness_check.specs.Passing.{RowsRead}
 use Rattle.witness_check.proofs.PolygonsStage.{polygons_broken, polygons_passed, polygons_refuted, polygons_uncounted}
@@ -15,7 +15,7 @@ pub returns-in_err-all_read-clause-refuted : goal.returns-in_err-all_read-clause
 returns-in_err-all_read-clause-refuted c =
     err_of _ c.in_err-all_read.field-0.0 c.from_residual-in_err-all_read.result c.from_residual-in_err-all_read.ensures.1
     (λ text after. polygons_broken text c.args.lines.now after c.next_count.new.lines c.read_rows.new.lines c.in_ok-count.count c.in_ok-rows.rows.items c.in_ok-count.ensures.read c.in_ok-count.ensures.within
-      c.in_ok-rows.rows.breaks c.in_err-all_read.ensures.broken.0 c.in_err-all_read.field-0.0 c.in_ok-rows.ensures c.in_err-all_read.ensures.broken.1 c.in_err-all_read.ensures.broken.2)
+    c.in_ok-rows.rows.breaks c.in_err-all_read.ensures.broken.0 c.in_err-all_read.field-0.0 c.in_ok-rows.ensures c.in_err-all_read.ensures.broken.1 c.in_err-all_read.ensures.broken.2)
 
 pub all_polygons-found-requires-clause-some : goal.all_polygons-found-requires-clause-some
 all_polygons-found-requires-clause-some c =
@@ -33,16 +33,16 @@ pub returns-clause-passed : goal.returns-clause-passed
 returns-clause-passed c =
     ok_on c.settled.result c.settled.ensures.made
     (λ made so text after. polygons_passed text c.args.lines.now after c.next_count.new.lines c.read_rows.new.lines c.in_ok-count.count c.as_slice.result.now
-      c.in_ok-count.ensures.read c.in_ok-count.ensures.within
-      (subst (λ b. RowsRead (λ i. polygon_line) c.in_ok-count.count c.next_count.new.lines c.read_rows.new.lines c.as_slice.result.now b) c.in_ok-all_read.ensures.whole
-      (lent_rows (λ i. polygon_line) c.in_ok-count.count c.next_count.new.lines c.read_rows.new.lines c.in_ok-rows.rows.items c.as_slice.result.now c.in_ok-rows.rows.breaks c.as_slice.ensures c.in_ok-rows.ensures))
-      made (if_ok _ c.all_polygons-found.result made so.0 c.all_polygons-found.ensures.page) (of_ok c.all_polygons-found.result made so.0 c.all_polygons-found.ensures.kept))
+    c.in_ok-count.ensures.read c.in_ok-count.ensures.within
+    (subst (λ b. RowsRead (λ i. polygon_line) c.in_ok-count.count c.next_count.new.lines c.read_rows.new.lines c.as_slice.result.now b) c.in_ok-all_read.ensures.whole
+    (lent_rows (λ i. polygon_line) c.in_ok-count.count c.next_count.new.lines c.read_rows.new.lines c.in_ok-rows.rows.items c.as_slice.result.now c.in_ok-rows.rows.breaks c.as_slice.ensures c.in_ok-rows.ensures))
+    made (if_ok _ c.all_polygons-found.result made so.0 c.all_polygons-found.ensures.page) (of_ok c.all_polygons-found.result made so.0 c.all_polygons-found.ensures.kept))
 
 pub returns-clause-refuted : goal.returns-clause-refuted
 returns-clause-refuted c =
     err_on c.settled.result c.settled.ensures.refused
     (λ refusal settles text after. polygons_refuted text c.args.lines.now after c.next_count.new.lines c.read_rows.new.lines c.in_ok-count.count c.as_slice.result.now
-      c.in_ok-count.ensures.read c.in_ok-count.ensures.within
-      (subst (λ b. RowsRead (λ i. polygon_line) c.in_ok-count.count c.next_count.new.lines c.read_rows.new.lines c.as_slice.result.now b) c.in_ok-all_read.ensures.whole
-      (lent_rows (λ i. polygon_line) c.in_ok-count.count c.next_count.new.lines c.read_rows.new.lines c.in_ok-rows.rows.items c.as_slice.result.now c.in_ok-rows.rows.breaks c.as_slice.ensures c.in_ok-rows.ensures))
-      c.number-first.result c.all_polygons-found.result refusal c.number-first.ensures.value c.number-first.ensures.few c.all_polygons-found.ensures.kept c.all_polygons-found.ensures.fault settles)
+    c.in_ok-count.ensures.read c.in_ok-count.ensures.within
+    (subst (λ b. RowsRead (λ i. polygon_line) c.in_ok-count.count c.next_count.new.lines c.read_rows.new.lines c.as_slice.result.now b) c.in_ok-all_read.ensures.whole
+    (lent_rows (λ i. polygon_line) c.in_ok-count.count c.next_count.new.lines c.read_rows.new.lines c.in_ok-rows.rows.items c.as_slice.result.now c.in_ok-rows.rows.breaks c.as_slice.ensures c.in_ok-rows.ensures))
+    c.number-first.result c.all_polygons-found.result refusal c.number-first.ensures.value c.number-first.ensures.few c.all_polygons-found.ensures.kept c.all_polygons-found.ensures.fault settles)

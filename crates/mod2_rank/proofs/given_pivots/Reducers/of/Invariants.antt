@@ -4,6 +4,7 @@ use Rattle.mod2_rank.specs.PivotLines.{next_column}
 use Rattle.mod2_rank.specs.PivotRules.{reducers}
 use Rattle.mod2_rank.specs.Rows.{none}
 use Rattle.mod2_rank.specs.RowWords.{row_in}
+use Rattle.mod2_rank.proofs.GivenVerdict.{rows_of}
 use Rattle.mod2_rank.proofs.given_pivots.Reducers.of.Given as goal
 
 -- the pivots so far pass, and their reducers are made
@@ -14,6 +15,6 @@ invariant-loop-number l = record {
   empty : row_in l.left ≡ none;
   none_called : row_in l.called ≡ none;
   low : l.low ≡ next_column 0 (take l.number l.pivots);
-  made : l.made ≡ record { rows = l.rows; list = reducers l.rows l.columns [] (take l.number l.pivots) };
-  pass : PassUpTo l.rows l.columns l.pivots l.number;
+  made : l.made ≡ record { rows = l.rows; list = reducers l.rows (rows_of l.columns) [] (take l.number l.pivots) };
+  pass : PassUpTo l.rows (rows_of l.columns) l.pivots l.number;
 }

@@ -1,0 +1,23 @@
+use Rattle.std.proofs.Common.{sym}
+use Rattle.std.specs.Prelude.{Ok}
+use Rattle.witness_check.proofs.HandedOn.{err_of, err_on}
+use Rattle.witness_check.proofs.OneRule.{held_true, ok_then}
+use Rattle.witness_check.proofs.OutcomeStage.{homology_passed, homology_refuted, homology_unread}
+use Rattle.witness_check.proofs.outcome_stage.homology_stage.Goals as goal
+
+pub returns-in_err-homology-clause-refuted : goal.returns-in_err-homology-clause-refuted
+returns-in_err-homology-clause-refuted c =
+    err_of _ c.in_err-homology.field-0.0 c.from_residual.result c.from_residual.ensures.1
+    (λ columns text after. homology_unread columns c.args.rows c.args.rank text c.args.lines.now after c.in_err-homology.field-0.0 c.in_err-homology.ensures.breaks)
+
+pub returns-clause-passed : goal.returns-clause-passed
+returns-clause-passed c =
+    ok_then c.held.result c.held.ensures.made
+    (λ made so columns text after. homology_passed columns c.args.rows c.args.rank text c.args.lines.now after c.next_homology.new.lines c.in_ok-homology.homology c.in_ok-homology.ensures.read
+    (held_true (Ok c.is_homology-right.result) so.1 c.is_homology-right.ensures))
+
+pub returns-clause-refuted : goal.returns-clause-refuted
+returns-clause-refuted c =
+    err_on c.held.result c.held.ensures.refused
+    (λ refusal untrue columns text after. homology_refuted columns c.args.rows c.args.rank text c.args.lines.now after c.next_homology.new.lines c.in_ok-homology.homology c.number-line.result (Ok c.is_homology-right.result) refusal
+    c.in_ok-homology.ensures.read c.number-line.ensures.value c.is_homology-right.ensures untrue)
