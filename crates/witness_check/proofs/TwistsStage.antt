@@ -47,7 +47,7 @@ module _ (page : List (List Label)) (curves : List NamedPath) (s : Slid) (text :
     pub twists_passed : (words : List (List ℕ)) → breaks ≡ None → TwistsCome s curves xs None → WordsAre s curves xs words → AfterTwists page s.polygon words text l2
     twists_passed words all come are =
         settled_well (λ i. twist_line) n (λ xs. seams_on) twist_rules seams_on_rules twists_fields known text l1 passed l2 xs breaks (HasPageWords page s.polygon words) read all
-        (λ c k more behind e. come c more k.surface_is k.curves_are e) (λ c k e. 
+        (λ c k more behind e. come c more k.surface_is k.curves_are e) (λ c k e.
         record {
           page_is = k.page_is;
           has_words = record {

@@ -75,11 +75,7 @@ fn surface_stage(
 }
 
 // The surface and the words, by the lines behind those of the polygons.
-fn curved_stage(
-    alloc: Global,
-    lines: &mut Lines,
-    page: &Page,
-) -> Result<Book, Refusal>
+fn curved_stage(alloc: Global, lines: &mut Lines, page: &Page) -> Result<Book, Refusal>
     ensures passed { IfOk result (λ book. (text : List ℕ) → AfterPolygons page.now text lines.old → AfterBook book.surface.slid.polygon book.words text lines.new) }
     ensures words { IfOk result (λ book. AreWords book.surface.slid.polygon book.words) }
     ensures refuted { IfErr result (λ refusal. (text : List ℕ) → AfterPolygons page.now text lines.old → Refutes text refusal) }

@@ -7,9 +7,11 @@ use Rattle.witness_check.proofs.finals_stage.finals_stage.Goals as goal
 
 pub first_wrong_final-fault-requires : goal.first_wrong_final-fault-requires
 first_wrong_final-fault-requires c =
-    record { few = finals_few (arc_count c.args.drawing.drawing.polygon) c.args.lines.now c.read_rows.new.lines c.as_slice.result.now (Some c.in-Some.line)
-    (lent_finals (c.sides-count.result / 2) (arc_count c.args.drawing.drawing.polygon) c.args.lines.now c.read_rows.new.lines c.in_ok-rows.rows.items c.as_slice.result.now c.in_ok-rows.rows.breaks (Some c.in-Some.line)
-    (ap (λ (k : ℕ). k / 2) (c.sides-count.ensures.value ∙ ap sides c.polygon.ensures)) c.as_slice.ensures c.in-Some.is c.in_ok-rows.ensures); }
+    record {
+      few = finals_few (arc_count c.args.drawing.drawing.polygon) c.args.lines.now c.read_rows.new.lines c.as_slice.result.now (Some c.in-Some.line)
+          (lent_finals (c.sides-count.result / 2) (arc_count c.args.drawing.drawing.polygon) c.args.lines.now c.read_rows.new.lines c.in_ok-rows.rows.items c.as_slice.result.now c.in_ok-rows.rows.breaks (Some c.in-Some.line)
+          (ap (λ (k : ℕ). k / 2) (c.sides-count.ensures.value ∙ ap sides c.polygon.ensures)) c.as_slice.ensures c.in-Some.is c.in_ok-rows.ensures);
+    }
 
 pub returns-in-Some-clause-refuted : goal.returns-in-Some-clause-refuted
 returns-in-Some-clause-refuted c text after =
@@ -21,9 +23,11 @@ returns-in-Some-clause-refuted c text after =
 
 pub last_drawing-tried-requires : goal.last_drawing-tried-requires
 last_drawing-tried-requires c =
-    record { each = rows_count shape (arc_count c.args.drawing.drawing.polygon) c.args.lines.now c.read_rows.new.lines c.as_slice-2.result.now
-    (lent_finals (c.sides-count.result / 2) (arc_count c.args.drawing.drawing.polygon) c.args.lines.now c.read_rows.new.lines c.in_ok-rows.rows.items c.as_slice-2.result.now c.in_ok-rows.rows.breaks None
-    (ap (λ (k : ℕ). k / 2) (c.sides-count.ensures.value ∙ ap sides c.polygon.ensures)) c.as_slice-2.ensures c.in_default.is c.in_ok-rows.ensures); }
+    record {
+      each = rows_count shape (arc_count c.args.drawing.drawing.polygon) c.args.lines.now c.read_rows.new.lines c.as_slice-2.result.now
+          (lent_finals (c.sides-count.result / 2) (arc_count c.args.drawing.drawing.polygon) c.args.lines.now c.read_rows.new.lines c.in_ok-rows.rows.items c.as_slice-2.result.now c.in_ok-rows.rows.breaks None
+          (ap (λ (k : ℕ). k / 2) (c.sides-count.ensures.value ∙ ap sides c.polygon.ensures)) c.as_slice-2.ensures c.in_default.is c.in_ok-rows.ensures);
+    }
 
 pub returns-clause-passed : goal.returns-clause-passed
 returns-clause-passed c =

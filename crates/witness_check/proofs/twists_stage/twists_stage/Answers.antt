@@ -19,8 +19,8 @@ pub returns-clause-passed : goal.returns-clause-passed
 returns-clause-passed c =
     ok_on c.settled.result c.settled.ensures.made
     (λ made so page text after. twists_passed page c.args.curves.now c.args.surface.now.slid text c.args.lines.now after c.next_count.new.lines c.read_rows.new.lines c.in_ok-count.count c.as_slice.result.now c.in_ok-rows.rows.breaks
-      c.in_ok-count.ensures.read c.in_ok-count.ensures.within (lent_rows (λ i. twist_line) c.in_ok-count.count c.next_count.new.lines c.read_rows.new.lines c.in_ok-rows.rows.items c.as_slice.result.now c.in_ok-rows.rows.breaks c.as_slice.ensures c.in_ok-rows.ensures)
-      made so.1 (of_ok c.words_of-found.result made so.0 c.words_of-found.ensures.kept) (if_ok _ c.words_of-found.result made so.0 c.words_of-found.ensures.words))
+    c.in_ok-count.ensures.read c.in_ok-count.ensures.within (lent_rows (λ i. twist_line) c.in_ok-count.count c.next_count.new.lines c.read_rows.new.lines c.in_ok-rows.rows.items c.as_slice.result.now c.in_ok-rows.rows.breaks c.as_slice.ensures c.in_ok-rows.ensures)
+    made so.1 (of_ok c.words_of-found.result made so.0 c.words_of-found.ensures.kept) (if_ok _ c.words_of-found.result made so.0 c.words_of-found.ensures.words))
 
 pub returns-clause-words : goal.returns-clause-words
 returns-clause-words c = ok_on c.settled.result c.settled.ensures.made (λ made so. if_ok _ c.words_of-found.result made so.0 c.words_of-found.ensures.of_strands)
@@ -29,5 +29,5 @@ pub returns-clause-refuted : goal.returns-clause-refuted
 returns-clause-refuted c =
     err_on c.settled.result c.settled.ensures.refused
     (λ refusal settles page text after. twists_refuted page c.args.curves.now c.args.surface.now.slid text c.args.lines.now after c.next_count.new.lines c.read_rows.new.lines c.in_ok-count.count c.as_slice.result.now c.in_ok-rows.rows.breaks
-      c.in_ok-count.ensures.read c.in_ok-count.ensures.within (lent_rows (λ i. twist_line) c.in_ok-count.count c.next_count.new.lines c.read_rows.new.lines c.in_ok-rows.rows.items c.as_slice.result.now c.in_ok-rows.rows.breaks c.as_slice.ensures c.in_ok-rows.ensures)
-      c.number-first.result c.words_of-found.result refusal c.number-first.ensures.value c.number-first.ensures.few c.words_of-found.ensures.kept c.words_of-found.ensures.fault settles)
+    c.in_ok-count.ensures.read c.in_ok-count.ensures.within (lent_rows (λ i. twist_line) c.in_ok-count.count c.next_count.new.lines c.read_rows.new.lines c.in_ok-rows.rows.items c.as_slice.result.now c.in_ok-rows.rows.breaks c.as_slice.ensures c.in_ok-rows.ensures)
+    c.number-first.result c.words_of-found.result refusal c.number-first.ensures.value c.number-first.ensures.few c.words_of-found.ensures.kept c.words_of-found.ensures.fault settles)
