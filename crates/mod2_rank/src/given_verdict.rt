@@ -43,12 +43,7 @@ fn add_columns(sum: &mut RowSet, columns: &[Column], rows: u32, numbers: &[u32])
 }
 
 // Whether the columns of these numbers, which are to ascend, have the contact row alone as sum.
-fn is_chain(
-    alloc: Global,
-    columns: &[Column],
-    rows: u32,
-    chain: &[u32],
-) -> Result<bool, NoMemory>
+fn is_chain(alloc: Global, columns: &[Column], rows: u32, chain: &[u32]) -> Result<bool, NoMemory>
     requires some { 0 < rows }
     requires ascend { AllAscend rows (map (λ column. column.rows) columns.now) }
     ensures { IfOk result (λ yes. yes ≡ (ascend_between 0 (length columns.now) chain.now && same_list (sum_of rows (columns_at (map (λ column. column.rows) columns.now) chain.now)) ((rows - 1) ∷ []))) }

@@ -186,12 +186,7 @@ fn end_stage(lines: &mut Lines) -> Result<(), Refusal>
 }
 
 // The lines of the pivots and the rank: the rank.
-fn ranked(
-    alloc: Global,
-    lines: &mut Lines,
-    columns: &[Column],
-    rows: u32,
-) -> Result<u32, Refusal>
+fn ranked(alloc: Global, lines: &mut Lines, columns: &[Column], rows: u32) -> Result<u32, Refusal>
     requires few { length columns.now < 2 ^ 32 }
     requires ascend { AllAscend rows (map (λ column. column.rows) columns.now) }
     ensures passed { IfOk result (λ rank. (text : List ℕ) → AfterColumns (map (λ column. column.rows) columns.now) rows text lines.old → AfterRank (map (λ column. column.rows) columns.now) rows rank text lines.new) }
