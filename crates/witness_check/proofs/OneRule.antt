@@ -1,6 +1,8 @@
 -- A line with one rule, and the end of a text.
-use Rattle.std.proofs.Common.{◌≡◌, ℕ, zero, suc, ◌+◌, Bool, true, false, List, [], ◌∷◌, ◌++◌, take, length, refl, sym, ◌∙◌, ap, ap₂, subst, arith}
+use Rattle.std.proofs.Common.{◌≡◌, ℕ, zero, suc, ◌+◌, Bool, true, false, cond, ℤ, pos, negsuc, List, [], ◌∷◌, ◌++◌, take, refl, sym, ◌∙◌, ap, ap₂, subst, arith}
 use Rattle.std.specs.Prelude.{Result, Ok, Err, IfOk, OnOk}
+use Rattle.std.proofs.lemmas.Bool.{and_parts, leb-true}
+use Rattle.std.proofs.lemmas.Int.{to_z-of_z}
 use Rattle.obd_base.specs.declared.causes.NoMemory.{NoMemory}
 use Rattle.witness_check.specs.declared.certificate.Certificate.{Certificate}
 use Rattle.witness_check.specs.declared.checked.Answer.{Answer}
@@ -12,13 +14,16 @@ use Rattle.witness_check.specs.declared.fault.Refusal.{Refusal}
 use Rattle.witness_check.specs.declared.fault.Refusal.TheVariants.{Bad as badly, NoMemory as no_memory}
 use Rattle.witness_check.specs.Between.{After, AfterVerdict, Refutes}
 use Rattle.witness_check.specs.Checked.{checked, first_bad, first_fault}
-use Rattle.witness_check.specs.Forms.{LineForm, Section, both, one, whole}
-use Rattle.witness_check.specs.Lines.{end_line}
+use Rattle.witness_check.specs.Forms.{LineForm, Section, both, broken, guess, has_form, one, read_one, whole}
+use Rattle.witness_check.specs.Lines.{end_line, homology_line}
 use Rattle.witness_check.specs.OutcomeRules.{Follows, Untrue}
 use Rattle.witness_check.specs.Passing.{Breaks, BreaksAt, Lines, SectionRead, judged_from}
+use Rattle.witness_check.specs.Reading.{is_signed}
 use Rattle.witness_check.specs.Rules.{Rule, rule}
 use Rattle.witness_check.specs.RulesOn.{end_on_rules}
 use Rattle.witness_check.proofs.Staged.{line_breaks, line_fault, line_passed}
+use mir.Syntax.{w32}
+use mir.Val.{SFits as FitsSigned, of_z, to_z}
 
 module _ {A B : Type 0} (shape : LineForm A) (t : A → Section B) (own : Certificate → List Rule) (rest : Certificate → List (List Rule)) (fields : Certificate → A × B) (known : Certificate → Type 0)
     (text : List ℕ) (l0 : Lines) (after : After (both (one shape) t) (λ c. (own c ∷ []) ++ rest c) fields known text l0)
@@ -53,6 +58,23 @@ module _ {A B : Type 0} (shape : LineForm A) (t : A → Section B) (own : Certif
 pub held_true : {p : Bool} (tried : Result Bool NoMemory) → tried ≡ Ok true → IfOk tried (λ yes. yes ≡ p) → p ≡ true
 held_true (Ok b) is e = let same : b ≡ true = cc in sym e ∙ same
 held_true (Err e) is p = absurd cc
+
+-- what a line says can be written
+pub says_fit : {A : Type 0} (shape : LineForm A) (ls : List (List ℕ)) (a : A) (rest : List (List ℕ)) → read_one shape ls ≡ whole a rest → shape.fits a ≡ true
+says_fit shape [] a rest e = absurd cc
+says_fit {A = A} shape (l ∷ ls) a rest e = go (has_form shape l) refl e
+  where
+    go : (b : Bool) → has_form shape l ≡ b → cond b (whole (guess shape l) ls) (broken shape.blank 0) ≡ whole a rest → shape.fits a ≡ true
+    go true h q = let same : guess shape l ≡ a = cc in subst (λ x. shape.fits x ≡ true) same (and_parts (shape.fits (guess shape l)) _ h).0
+    go false h q = absurd cc
+
+-- so a signed number that a line says is one
+signed_fits : (z : ℤ) → is_signed z ≡ true → FitsSigned w32 z
+signed_fits (pos n) is = let few = leb-true n 2147483647 is in record { sfits = omega (arith, few) }
+signed_fits (negsuc n) is = let few = leb-true n 2147483647 is in record { sfits = omega (arith, few) }
+
+pub homology_again : (l0 l1 : Lines) (z : ℤ) → SectionRead (one homology_line) l0 l1 z → to_z w32 (of_z w32 z) ≡ z
+homology_again l0 l1 z read = to_z-of_z w32 z (signed_fits z (says_fit homology_line l0.left z l1.left read.0))
 
 -- what follows from what is said of a good result
 pub ok_then : {T E : Type 0} {P : T → Type 0} {Q : Type 0} (result : Result T E) → IfOk result P → ((a : T) → P a → Q) → OnOk result Q

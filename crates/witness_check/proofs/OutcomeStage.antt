@@ -1,6 +1,6 @@
 -- The lines from the pivots to the verdict.
-use Rattle.std.proofs.Common.{◌≡◌, ℕ, suc, ◌+◌, ◌*◌, ◌<◌, ◌≤◌, ◌^◌, ◌&&◌, pos, ◌-ℤ◌, ℤ, int_eq, eqb, leb, Bool, true, false, List, [], ◌∷◌, ◌++◌, length, map, take, get_or, codes, Option, Some, None, refl, sym, ◌∙◌, ap, ap₂, subst, arith}
-use Rattle.std.specs.Prelude.{Result, Ok, Err, IfErr, IfOk, OnOk}
+use Rattle.std.proofs.Common.{◌≡◌, ℕ, suc, ◌+◌, ◌*◌, ◌<◌, ◌≤◌, ◌^◌, ◌&&◌, pos, ◌-ℤ◌, ℤ, int_eq, eqb, leb, Bool, true, false, List, [], ◌∷◌, ◌++◌, length, take, get_or, codes, Option, Some, None, sym, ◌∙◌, ap, ap₂, subst, arith}
+use Rattle.std.specs.Prelude.{Result, IfErr, IfOk, OnOk}
 use Rattle.std.specs.List.{list_all}
 use Rattle.std.proofs.lemmas.List.{get_or_default, take_all}
 use Rattle.obd_base.specs.declared.causes.NoMemory.{NoMemory}
@@ -15,7 +15,6 @@ use Rattle.mod2_rank.proofs.GivenPivots.{reducers_size}
 use Rattle.witness_check.specs.declared.certificate.Certificate.{Certificate}
 use Rattle.witness_check.specs.declared.checked.Answer.{Answer}
 use Rattle.witness_check.specs.declared.checked.Reason.TheVariants.{Pivot as pivot, Rank as rank, Homology as homology, Verdict as verdict}
-use Rattle.witness_check.specs.declared.fault.Fault.{Fault}
 use Rattle.witness_check.specs.declared.fault.Refusal.{Refusal}
 use Rattle.witness_check.specs.declared.fault.Stop.{Stop}
 use Rattle.witness_check.specs.declared.fault.Stop.TheVariants.{Fault as stopped}
@@ -28,7 +27,7 @@ use Rattle.witness_check.specs.Grammar.{outcome_of}
 use Rattle.witness_check.specs.Lines.{answer_line, end_line, homology_line, number_line, pivot_line}
 use Rattle.witness_check.specs.OutcomeRules.{AfterReducers, BeginsPivots, HasReducers, Untrue}
 use Rattle.witness_check.specs.Passing.{Breaks, CountRefused, Lines, RowsRead, SectionRead, is_between}
-use Rattle.witness_check.specs.Rules.{Rule, each, homology_rules, last_columns, pivot_rules, rank_rules, rule, verdict_rules}
+use Rattle.witness_check.specs.Rules.{each, homology_rules, pivot_rules, rank_rules, rule, verdict_rules}
 use Rattle.witness_check.specs.RulesOn.{end_on_rules, homology_on_rules, pivot_count, rank_on_rules, verdict_on_rules}
 use Rattle.witness_check.specs.Settling.{Settles}
 use Rattle.witness_check.specs.Stages.{homology_on, rank_on, verdict_on}

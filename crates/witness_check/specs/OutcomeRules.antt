@@ -2,7 +2,7 @@
 use Rattle.std.specs.Prelude.{◌≡◌, ℕ, suc, Bool, true, false, List, [], ◌∷◌, ◌++◌, length, Result, Ok, Err}
 use Rattle.obd_base.specs.declared.causes.NoMemory.{NoMemory}
 use Rattle.mod2_rank.specs.GivenPivots.{Reducing}
-use Rattle.mod2_rank.specs.PivotRules.{Reducer, reducers}
+use Rattle.mod2_rank.specs.PivotRules.{reducers}
 use Rattle.mod2_rank.specs.declared.outcome.Pivot.{Pivot}
 use Rattle.witness_check.specs.declared.certificate.Certificate.{Certificate}
 use Rattle.witness_check.specs.declared.checked.Reason.{Reason}

@@ -17,7 +17,7 @@ reducers_of-tried-requires-clause-few_pivots c =
     let few = rows_at_most (λ i. pivot_line) c.in_ok-count.count c.next_count.new.lines c.read_rows.new.lines c.as_slice.result.now c.in_ok-pivots.pivots.breaks 0 c.args.rows
     (lent_rows (λ i. pivot_line) c.in_ok-count.count c.next_count.new.lines c.read_rows.new.lines c.in_ok-pivots.pivots.items c.as_slice.result.now c.in_ok-pivots.pivots.breaks c.as_slice.ensures c.in_ok-pivots.ensures)
     c.in_ok-count.ensures.within in
-    omega (arith, few)
+    omega (arith, few, c.ranges.rows.fits)
 
 pub returns-clause-passed : goal.returns-clause-passed
 returns-clause-passed c =

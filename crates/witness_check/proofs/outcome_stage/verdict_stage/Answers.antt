@@ -1,4 +1,4 @@
-use Rattle.std.proofs.Common.{sym, ◌∙◌}
+use Rattle.std.proofs.Common.{◌∙◌}
 use Rattle.mod2_rank.proofs.GivenVerdict.{rows_of}
 use Rattle.witness_check.proofs.HandedOn.{err_of, err_on, ok_on}
 use Rattle.witness_check.proofs.OneRule.{held_true}
