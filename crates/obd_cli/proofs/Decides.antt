@@ -1,5 +1,5 @@
 -- A run that ends with Done has finished its command, and what a run ends with.
-use Rattle.std.proofs.Common.{◌≡◌, ℕ, ◌≤◌, List, ◌++◌, length, true, false, Option, Some, None, Result, Ok, Err, ◌⊎◌, inl, inr, refl, sym, ◌∙◌, ap, subst, arith, ltb, length-append}
+use Rattle.std.proofs.Common.{◌≡◌, ℕ, ◌<◌, ◌≤◌, List, ◌++◌, length, true, false, Option, Some, None, Result, Ok, Err, ◌⊎◌, inl, inr, refl, sym, ◌∙◌, ap, subst, arith, ltb, length-append}
 use Rattle.std.specs.Io.KnownBytes.{Consumes, Appends, IsAtEnd}
 use Rattle.std.proofs.lemmas.Bool.{lt-ltb, le-ltb}
 use Rattle.std.proofs.lemmas.List.{append-nil}
@@ -9,6 +9,7 @@ use Rattle.obd_doc.specs.declared.book.Book.{Book}
 use Rattle.obd_doc.specs.declared.refusal.DocRefusal.{DocRefusal}
 use Rattle.obd_cli.proofs.OverLimit.{words_budget, words_limited, words_within}
 use Rattle.obd_cli.proofs.ReadOpens.{certificate_valid}
+use Rattle.obd_cli.proofs.SampleOpens.{sample_valid}
 use Rattle.obd_cli.proofs.Stops.{words_answered, words_done, words_never}
 use Rattle.obd_cli.specs.Answers.{AnswersAll, AnswersCertificate, AnswersDoc, AnswersDocument, AnswersLong, AnswersRead, AnswersSample, AnswersSurface, Owes, has_text, most_bytes, page_answer}
 use Rattle.obd_cli.specs.CheckAnswer.{bad_line, check_answer, valid_line}
@@ -118,9 +119,9 @@ judged left now_left written now_written answer all done wrote =
     }
 
 -- and what was told of a sample
-sampled : (seed twists : ℕ) (left now_left written now_written : Option (List ℕ)) (answer : Answer) → AnswersSample seed twists answer → now_left ≡ left
+sampled : (seed twists : ℕ) → twists ≤ 256 → (left now_left written now_written : Option (List ℕ)) (answer : Answer) → AnswersSample seed twists answer → now_left ≡ left
     → answer.status ≡ status.Done → Appends written now_written answer.text → Sampled seed twists left now_left written now_written
-sampled seed twists left now_left written now_written answer answers unread done wrote =
+sampled seed twists few left now_left written now_written answer answers unread done wrote =
     let book = sample_book seed twists in
     let (s, is_surface, tells) = surface_done (wanted.Summary seed twists) book (surface_of (open_book book)) answer answers done in
     let certifies = words_done (summary seed twists) book s (book_words book s) answer (tells_answers (summary seed twists) book s answer tells) done in
@@ -128,6 +129,7 @@ sampled seed twists left now_left written now_written answer answers unread done
       unread = unread;
       certificate = certifies.certificate;
       belongs = certifies.belongs;
+      valid = sample_valid seed twists few certifies.certificate certifies.belongs;
       wrote = subst (Appends written now_written) certifies.text wrote;
     }
 
@@ -135,21 +137,28 @@ sampled seed twists left now_left written now_written answer answers unread done
 long_not_done : (most : ℕ) (left now_left : Option (List ℕ)) (answer : Answer) → AnswersLong most left now_left answer → answer.status ≡ status.Done → ⊥
 long_not_done most left now_left answer long done = let bad = sym done ∙ ap (λ (a : Answer). a.status) long.answers in cc
 
-by_owed : (command : Option Command) (left now_left written now_written : Option (List ℕ)) (answer : Answer) → Owes command left now_left answer
+-- the numbers of a sample are in range
+abbrev IsInRange : Option Command → Type 0
+IsInRange which = (seed twists : ℕ) → which ≡ Some (command.Sample seed twists) → (seed < 65536) × (1 ≤ twists) × (twists ≤ 256)
+
+by_owed : (command : Option Command) (left now_left written now_written : Option (List ℕ)) (answer : Answer) → IsInRange command → Owes command left now_left answer
     → answer.status ≡ status.Done → Appends written now_written answer.text → Finished command left now_left written now_written
-by_owed None left now_left written now_written answer owed done wrote = absurd (let bad = sym done ∙ ap (λ (a : Answer). a.status) owed in cc)
-by_owed (Some command.Decide) left now_left written now_written answer (inl all) done wrote = decided left now_left written now_written answer all done wrote
-by_owed (Some command.Decide) left now_left written now_written answer (inr long) done wrote = absurd (long_not_done (most_bytes command.Decide) left now_left answer long done)
-by_owed (Some command.Page) left now_left written now_written answer (inl all) done wrote = paged left now_left written now_written answer all done wrote
-by_owed (Some command.Page) left now_left written now_written answer (inr long) done wrote = absurd (long_not_done (most_bytes command.Page) left now_left answer long done)
-by_owed (Some command.Check) left now_left written now_written answer (inl all) done wrote = judged left now_left written now_written answer all done wrote
-by_owed (Some command.Check) left now_left written now_written answer (inr long) done wrote = absurd (long_not_done (most_bytes command.Check) left now_left answer long done)
-by_owed (Some (command.Sample seed twists)) left now_left written now_written answer (answers, unread) done wrote = sampled seed twists left now_left written now_written answer answers unread done wrote
+by_owed None left now_left written now_written answer range owed done wrote = absurd (let bad = sym done ∙ ap (λ (a : Answer). a.status) owed in cc)
+by_owed (Some command.Decide) left now_left written now_written answer range (inl all) done wrote = decided left now_left written now_written answer all done wrote
+by_owed (Some command.Decide) left now_left written now_written answer range (inr long) done wrote = absurd (long_not_done (most_bytes command.Decide) left now_left answer long done)
+by_owed (Some command.Page) left now_left written now_written answer range (inl all) done wrote = paged left now_left written now_written answer all done wrote
+by_owed (Some command.Page) left now_left written now_written answer range (inr long) done wrote = absurd (long_not_done (most_bytes command.Page) left now_left answer long done)
+by_owed (Some command.Check) left now_left written now_written answer range (inl all) done wrote = judged left now_left written now_written answer all done wrote
+by_owed (Some command.Check) left now_left written now_written answer range (inr long) done wrote = absurd (long_not_done (most_bytes command.Check) left now_left answer long done)
+by_owed (Some (command.Sample seed twists)) left now_left written now_written answer range (answers, unread) done wrote =
+    let (_, _, few) = range seed twists refl in
+    sampled seed twists few left now_left written now_written answer answers unread done wrote
 
 -- what was told with Done is finished
-pub finished_from_told : (command : Option Command) (left now_left written now_written : Option (List ℕ)) (result : Status) → result ≡ status.Done
+pub finished_from_told : (command : Option Command) (left now_left written now_written : Option (List ℕ)) (result : Status) → IsInRange command → result ≡ status.Done
     → Told command left now_left written now_written result → Finished command left now_left written now_written
-finished_from_told command left now_left written now_written result done told = by_owed command left now_left written now_written told.answer told.owed (told.same ∙ done) told.wrote
+finished_from_told command left now_left written now_written result range done told =
+    by_owed command left now_left written now_written told.answer range told.owed (told.same ∙ done) told.wrote
 
 -- what a source that tells its bytes gave, up to its end, is all of them
 all_given : (bytes gave : List ℕ) (now_left : Option (List ℕ)) → Consumes (Some bytes) now_left gave → IsAtEnd now_left → gave ≡ bytes

@@ -22,6 +22,7 @@ mod Named
 mod OverLimit
 pub mod ReadOpens
 pub mod SampleBook
+pub mod SampleOpens
 mod Stops
 mod Surfaces
 mod Within

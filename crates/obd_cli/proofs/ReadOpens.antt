@@ -1,4 +1,4 @@
--- A book that was read is an open book.
+-- A book that keeps all rules, as one that was read does, is an open book, and a certificate of it is valid.
 use Rattle.std.proofs.Common.{◌≡◌, ℕ, ◌<◌, Bool, true, false, eqb, leb, ◌&&◌, ◌||◌, List, [], ◌∷◌, length, get_or, Some, refl, sym, ◌∙◌, subst, arith}
 use Rattle.std.specs.List.{list_all}
 use Rattle.std.proofs.lemmas.List.{length-map}
@@ -46,7 +46,7 @@ name_opens word is = nested (leb 1 (length word)) (leb (length word) 16) _ _ (sa
     nested false y z w same is = absurd (let bad = is in cc)
 
 -- the open book of a book that keeps all rules
-accepted_opens : (book : Book) → IsAccepted book → IsOpenBook (open_book book)
+pub accepted_opens : (book : Book) → IsAccepted book → IsOpenBook (open_book book)
 accepted_opens book is = record {
   page = is.page;
   labels = λ k labels l i label within. name_opens (get_or (get_or book.page k labels) i label) (is.labels k labels l i label within);
@@ -70,10 +70,14 @@ accepted_opens book is = record {
     path_of : NamedCurve → NamedPath
     path_of curve = record { name = curve.name; path = curve.path }
 
+-- so a certificate of it is valid
+pub accepted_valid : (book : Book) (c : Certificate) → IsAccepted book → IsCertificateOf book c → checked (certificate_text c) ≡ valid (answer_of c.verdict)
+accepted_valid book c is of_book = belonging_valid (open_book book) c (accepted_opens book is) of_book.belongs
+
 -- a book that was read is an open book
 pub read_opens : (bytes : List ℕ) (book : Book) → book_read bytes ≡ Some book → IsOpenBook (open_book book)
 read_opens bytes book is = accepted_opens book (read_accepted bytes book is)
 
 -- and a certificate of it is valid
 pub certificate_valid : (bytes : List ℕ) (book : Book) (c : Certificate) → book_read bytes ≡ Some book → IsCertificateOf book c → checked (certificate_text c) ≡ valid (answer_of c.verdict)
-certificate_valid bytes book c is of_book = belonging_valid (open_book book) c (read_opens bytes book is) of_book.belongs
+certificate_valid bytes book c is of_book = accepted_valid book c (read_accepted bytes book is) of_book

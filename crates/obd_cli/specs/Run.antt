@@ -80,11 +80,13 @@ pub record Judged (left now_left written now_written : Option (List ℕ)) : Type
   pub valid : checked bytes ≡ Valid answer
   pub wrote : Appends written now_written (valid_line answer)
 
--- nothing was read, and the summary of a certificate that belongs to the sample's book was written
+-- nothing was read, and the summary of a certificate that belongs to the sample's book, and that a check finds valid with the same
+-- answer, was written
 pub record Sampled (seed twists : ℕ) (left now_left written now_written : Option (List ℕ)) : Type 0 where
   pub unread : now_left ≡ left
   pub certificate : Certificate
   pub belongs : IsCertificateOf (sample_book seed twists) certificate
+  pub valid : checked (certificate_text certificate) ≡ Valid (answer_of certificate.verdict)
   pub wrote : Appends written now_written (summary seed twists certificate)
 
 -- what Done says for a command

@@ -1,5 +1,6 @@
 use Rattle.std.proofs.Common.{ap, refl}
 use Rattle.obd_cli.specs.Answers.{reads}
+use Rattle.obd_cli.proofs.CommandLaws.{numbers_in_range}
 use Rattle.obd_cli.proofs.Decides.{completed, finished_from_told, rejected_from_told, sample_ended, usage_told}
 use Rattle.obd_cli.proofs.Limits.{budget_from_told, limited_from_told}
 use Rattle.obd_cli.proofs.Within.{certified_within, check_within, sample_within}
@@ -7,7 +8,7 @@ use Rattle.obd_cli.specs.declared.status.Command.TheVariants as which
 use Rattle.obd_cli.proofs.top.run.Goals as goal
 
 pub returns-clause-done : goal.returns-clause-done
-returns-clause-done g c = λ done. finished_from_told _ _ _ _ _ _ done (c.run_words.ensures.told (rw done refl))
+returns-clause-done g c = λ done. finished_from_told _ _ _ _ _ _ (numbers_in_range _) done (c.run_words.ensures.told (rw done refl))
 
 pub returns-clause-bad : goal.returns-clause-bad
 returns-clause-bad g c = λ bad. rejected_from_told _ _ _ _ _ _ bad (c.run_words.ensures.told (rw bad refl))
