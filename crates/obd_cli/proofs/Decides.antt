@@ -141,6 +141,7 @@ long_not_done most left now_left answer long done = let bad = sym done ∙ ap (�
 abbrev IsInRange : Option Command → Type 0
 IsInRange which = (seed twists : ℕ) → which ≡ Some (command.Sample seed twists) → (seed < 65536) × (1 ≤ twists) × (twists ≤ 256)
 
+-- an answer with Done finishes its command
 by_owed : (command : Option Command) (left now_left written now_written : Option (List ℕ)) (answer : Answer) → IsInRange command → Owes command left now_left answer
     → answer.status ≡ status.Done → Appends written now_written answer.text → Finished command left now_left written now_written
 by_owed None left now_left written now_written answer range owed done wrote = absurd (let bad = sym done ∙ ap (λ (a : Answer). a.status) owed in cc)

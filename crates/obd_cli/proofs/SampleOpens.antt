@@ -1,10 +1,10 @@
 -- The book of a sample keeps all rules, so it is an open book, and a certificate of it is valid.
-use Rattle.std.proofs.Common.{◌≡◌, ℕ, zero, suc, ◌+◌, ◌*◌, ◌%◌, ◌≤◌, Bool, true, false, List, [], ◌∷◌, codes, length, get_or, refl, arith, ap, inl, inr, All}
+use Rattle.std.proofs.Common.{◌≡◌, ℕ, zero, suc, ◌+◌, ◌*◌, ◌%◌, ◌≤◌, Bool, true, false, List, [], ◌∷◌, codes, get_or, refl, arith, ap, inl, inr, All}
 use Rattle.std.specs.Prelude.{negsuc, pos, nat_eq, if◌then◌else◌}
 use Rattle.std.proofs.lemmas.List.{length-map}
 use Rattle.std.proofs.lemmas.List.FromFn.{length-range_with_len}
 use Rattle.std.proofs.lemmas.Nat.{mod_below}
-use Rattle.obd_base.specs.Lists.{Mem, Once, below}
+use Rattle.obd_base.specs.Lists.{Mem, below}
 use Rattle.curve_paths.specs.PathTables.{HaveOccurrences}
 use Rattle.witness_check.specs.Checked.{answer_of, checked}
 use Rattle.witness_check.specs.OpenBook.{IsOpenBook}
