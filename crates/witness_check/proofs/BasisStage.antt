@@ -1,5 +1,5 @@
 -- The lines of the seams and of the basis.
-use Rattle.std.proofs.Common.{◌≡◌, ℕ, suc, ◌+◌, ◌/◌, Bool, true, false, List, [], ◌∷◌, ◌++◌, length, Option, Some, None, refl, sym, ◌∙◌, ap, ap₂, subst, arith}
+use Rattle.std.proofs.Common.{◌≡◌, ℕ, suc, ◌+◌, ◌/◌, Bool, true, false, List, [], ◌∷◌, length, sym, ◌∙◌, ap, ap₂, subst, arith}
 use Rattle.std.specs.Prelude.{Result, Ok, Err, OnOk}
 use Rattle.mod2_rank.specs.Linear.{same_list}
 use Rattle.mod2_rank.proofs.Members.{same_list_true}
@@ -18,10 +18,9 @@ use Rattle.witness_check.specs.Grammar.{drawn_form, drawn_of}
 use Rattle.witness_check.specs.Lines.{basis_line, seams_line}
 use Rattle.witness_check.specs.OpenBook.{arcs, seam_names}
 use Rattle.witness_check.specs.Passing.{Breaks, Lines, SectionRead}
-use Rattle.witness_check.specs.Rules.{Rule, rule, same_names}
+use Rattle.witness_check.specs.Rules.{rule, same_names}
 use Rattle.witness_check.specs.RulesOn.{basis_on_rules, basis_rules, seams_rules, strands_on_rules}
 use Rattle.witness_check.specs.Stages.{basis_on}
-use Rattle.witness_check.specs.Written.{polygon}
 use Rattle.witness_check.proofs.SameLists.{arc_number}
 use Rattle.witness_check.proofs.Staged.{line_breaks, line_fault, line_passed}
 

@@ -1,14 +1,13 @@
 -- The line of the version is passed, or isn't there.
 use Rattle.std.proofs.Common.{◌≡◌, ℕ, suc, ◌+◌, List, [], ◌∷◌, ◌++◌, length, take, refl, sym, ◌∙◌, ap, ap₂, arith, append_assoc}
 use Rattle.witness_check.specs.declared.certificate.Certificate.{Certificate}
-use Rattle.witness_check.specs.declared.checked.Checked.{Checked}
 use Rattle.witness_check.specs.declared.checked.Checked.TheVariants.{Bad as bad, Valid as valid}
 use Rattle.witness_check.specs.declared.checked.Reason.TheVariants.{Form as form}
 use Rattle.witness_check.specs.Between.{AfterColumns, AfterDrawing, AfterVersion}
 use Rattle.witness_check.specs.Checked.{answer_of, checked, first_bad, judged}
 use Rattle.witness_check.specs.DrawingRules.{HasGenerators}
-use Rattle.witness_check.specs.Forms.{Begun, after_first, begun_as, both, broken, one, read_both, read_one, whole}
-use Rattle.witness_check.specs.Grammar.{certificate_lines, certificate_of, parts_form, parts_of, said}
+use Rattle.witness_check.specs.Forms.{Begun, after_first, begun_as, broken, one, read_both, read_one, whole}
+use Rattle.witness_check.specs.Grammar.{certificate_lines, certificate_of, said}
 use Rattle.witness_check.specs.Lines.{version_line}
 use Rattle.witness_check.specs.Passing.{Lines, judged_from}
 use Rattle.witness_check.specs.Rules.{Rule, contact_rules, curve_rules, drawing_rules, each, final_rules, finger_rules, generator_rules, line_rules, outcome_rules, polygon_count, polygon_rules, slide_rules, strand_rules, twist_rules}

@@ -1,25 +1,24 @@
 -- The lines of the fingers.
-use Rattle.std.proofs.Common.{◌≡◌, ℕ, suc, ◌+◌, ◌<◌, ◌^◌, true, List, [], ◌∷◌, ◌++◌, length, codes, Option, Some, None, sym, ◌∙◌, ap, ap₂, subst}
-use Rattle.std.specs.Prelude.{Result, Ok, Err, IfErr, OnOk}
+use Rattle.std.proofs.Common.{◌≡◌, ℕ, suc, ◌+◌, ◌<◌, ◌^◌, true, List, [], ◌∷◌, ◌++◌, length, codes, Option, None, sym, ◌∙◌, ap, ap₂, subst}
+use Rattle.std.specs.Prelude.{Result, IfErr, OnOk}
 use Rattle.page_surface.specs.Drawing.{Drawing}
 use Rattle.page_surface.specs.Polygon.{arc_count}
 use Rattle.drawing.specs.Fingers.{replayed}
 use Rattle.drawing.specs.declared.finger.Finger.{Finger}
 use Rattle.witness_check.specs.declared.certificate.Certificate.{Certificate}
 use Rattle.witness_check.specs.declared.checked.Reason.TheVariants.{Limit as limit}
-use Rattle.witness_check.specs.declared.fault.Fault.{Fault}
 use Rattle.witness_check.specs.declared.fault.Refusal.{Refusal}
 use Rattle.witness_check.specs.declared.fault.Stop.{Stop}
 use Rattle.witness_check.specs.Between.{After, AfterFingers, AfterStrands, Refutes}
 use Rattle.witness_check.specs.DrawingRules.{BeginsFingers, Finds, Stops}
 use Rattle.witness_check.specs.FieldsOn.{fingers_fields}
-use Rattle.witness_check.specs.Forms.{Section, both, one, rows}
+use Rattle.witness_check.specs.Forms.{both, one, rows}
 use Rattle.witness_check.specs.Lines.{finger_line, number_line}
 use Rattle.witness_check.specs.Passing.{CountRefused, Lines, RowsRead, SectionRead, is_between}
-use Rattle.witness_check.specs.Rules.{Rule, each, finger_rules, rule}
+use Rattle.witness_check.specs.Rules.{each, finger_rules, rule}
 use Rattle.witness_check.specs.RulesOn.{finals_on_rules, finger_count}
 use Rattle.witness_check.specs.Settling.{Settles}
-use Rattle.witness_check.specs.Stages.{GeneratorsOn, finals_on}
+use Rattle.witness_check.specs.Stages.{finals_on}
 use Rattle.witness_check.specs.Written.{first_drawing, last_drawing}
 use Rattle.witness_check.proofs.HandedOn.{of_ok, of_stop}
 use Rattle.witness_check.proofs.Settled.{settled_badly, settled_well}

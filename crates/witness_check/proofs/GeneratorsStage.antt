@@ -1,6 +1,6 @@
 -- The lines of the generators and of the contact generator.
 use Rattle.std.proofs.Common.{◌≡◌, ℕ, suc, ◌+◌, ◌≤◌, ◌<◌, ◌^◌, List, [], ◌∷◌, ◌++◌, length, codes, Option, Some, None, refl, sym, ◌∙◌, ap, subst, arith}
-use Rattle.std.specs.Prelude.{Result, Ok, Err, IfErr, OnOk}
+use Rattle.std.specs.Prelude.{Result, Ok, Err, IfErr}
 use Rattle.page_surface.specs.Drawing.{Drawing}
 use Rattle.page_surface.specs.Polygon.{arc_count}
 use Rattle.witness_check.specs.declared.certificate.Certificate.{Certificate}
@@ -23,7 +23,7 @@ use Rattle.witness_check.specs.RulesOn.{contact_on_rules, pivots_on_rules}
 use Rattle.witness_check.specs.Settling.{FaultFrom, Settles}
 use Rattle.witness_check.specs.Stages.{contact_on}
 use Rattle.witness_check.specs.Written.{last_drawing}
-use Rattle.witness_check.proofs.HandedOn.{of_ok, of_stop}
+use Rattle.witness_check.proofs.HandedOn.{of_stop}
 use Rattle.witness_check.proofs.Staged.{fault_within, line_breaks, line_fault, line_passed}
 
 -- A single line that was read and tried.

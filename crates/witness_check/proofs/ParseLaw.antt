@@ -1,16 +1,16 @@
 -- What the lines after the first one say of the whole text.
-use Rattle.std.proofs.Common.{◌≡◌, ℕ, suc, ◌+◌, true, List, [], ◌∷◌, length, refl, sym, ◌∙◌, ap, subst, arith}
+use Rattle.std.proofs.Common.{◌≡◌, ℕ, suc, ◌+◌, true, List, [], ◌∷◌, length, sym, ◌∙◌, ap, subst, arith}
 use Rattle.std.specs.Prelude.{Result, Ok, Err, IfErr, IsErrAnd}
 use Rattle.witness_check.specs.declared.certificate.Certificate.{Certificate}
 use Rattle.witness_check.specs.declared.fault.Refusal.{Refusal}
 use Rattle.witness_check.specs.declared.fault.Refusal.TheVariants.{Bad as badly, NoMemory as no_memory}
 use Rattle.witness_check.specs.declared.parsing.ParseRefusal.{ParseRefusal}
-use Rattle.witness_check.specs.declared.parsing.ParseRefusal.TheVariants.{Form as form, NoMemory as no_room}
+use Rattle.witness_check.specs.declared.parsing.ParseRefusal.TheVariants.{Form as form}
 use Rattle.witness_check.specs.Forms.{Begun, after_first, begun_as, broken, one, read_both, read_one, whole}
-use Rattle.witness_check.specs.Grammar.{BreaksAfter, breaks, certificate_lines, certificate_of, fits, parsed, parts_form, said, says}
+use Rattle.witness_check.specs.Grammar.{BreaksAfter, certificate_lines, certificate_of, fits, parsed, said, says}
 use Rattle.witness_check.specs.Lines.{version_line}
 use Rattle.witness_check.specs.Parsing.{parse_refusal}
-use Rattle.witness_check.specs.Passing.{BreaksAt, EndsAt, EndsEarly, Lines, breaks as broken_off, follows}
+use Rattle.witness_check.specs.Passing.{EndsAt, EndsEarly, Lines, breaks as broken_off, follows}
 use Rattle.witness_check.specs.Splitting.{lines_of}
 use Rattle.witness_check.specs.Stages.{PolygonsOn, polygons_on}
 use Rattle.witness_check.specs.Text.{certificate_text}

@@ -1,20 +1,15 @@
 -- A text is passed section by section.
-use Rattle.std.proofs.Common.{◌≡◌, ℕ, zero, suc, ◌+◌, ◌-◌, ◌≤◌, ◌<◌, Bool, true, false, not, List, [], ◌∷◌, ◌++◌, length, map, take, find, Option, Some, None, refl, sym, ◌∙◌, ap, ap₂, subst, arith, append_assoc, append-nil, length-append}
-use Rattle.std.specs.List.{enumerate_from}
-use Rattle.std.proofs.lemmas.Bool.{and_parts}
+use Rattle.std.proofs.Common.{◌≡◌, ℕ, suc, ◌+◌, not, List, [], ◌∷◌, ◌++◌, length, take, find, Option, Some, None, refl, sym, ◌∙◌, ap, ap₂, arith, append-nil, length-append}
 use Rattle.witness_check.specs.declared.certificate.Certificate.{Certificate}
 use Rattle.witness_check.specs.declared.checked.Checked.{Checked}
 use Rattle.witness_check.specs.declared.checked.Checked.TheVariants.{Bad as bad, Valid as valid}
-use Rattle.witness_check.specs.declared.checked.Reason.{Reason}
 use Rattle.witness_check.specs.declared.checked.Reason.TheVariants.{Form as form}
 use Rattle.witness_check.specs.declared.fault.Fault.{Fault}
-use Rattle.witness_check.specs.Checked.{answer_of, bad_line, checked, fault_or, first_bad, first_fault, judged, one_later}
-use Rattle.witness_check.specs.Forms.{Begun, LineForm, Section, after_first, begun_as, blank_rows, both, broken, one, read_both, read_one, read_rows, rows, whole, write_rows}
-use Rattle.witness_check.specs.Lines.{counted, number_line}
+use Rattle.witness_check.specs.Checked.{answer_of, bad_line, checked, fault_or, first_bad, first_fault, one_later}
+use Rattle.witness_check.specs.Forms.{Begun, Section, after_first, both, broken, read_both, whole}
 use Rattle.witness_check.specs.Passing.{Lines, Passes, judged_from}
-use Rattle.witness_check.specs.Rules.{Rule, each}
-use Rattle.witness_check.proofs.Prefixes.{take_past, take_within}
-use Rattle.witness_check.proofs.Reading.{length_written}
+use Rattle.witness_check.specs.Rules.{Rule}
+use Rattle.witness_check.proofs.Prefixes.{take_past}
 
 -- lines whose rules are kept are passed
 passed_lines : (k j : ℕ) (ks ls : List (List Rule)) (good : Checked) → first_fault ks ≡ None → j ≡ k + length ks → first_bad k (ks ++ ls) good ≡ first_bad j ls good

@@ -1,8 +1,8 @@
 -- Sections are read one after another.
-use Rattle.std.proofs.Common.{◌≡◌, ℕ, zero, suc, ◌+◌, ◌≤◌, List, [], ◌∷◌, ◌++◌, length, refl, sym, ◌∙◌, ap, subst, arith, length-append}
+use Rattle.std.proofs.Common.{◌≡◌, ℕ, suc, ◌+◌, List, [], ◌∷◌, ◌++◌, length, refl, sym, ◌∙◌, ap, subst, arith, length-append}
 use Rattle.witness_check.specs.declared.checked.Reason.TheVariants.{Form as form}
 use Rattle.std.specs.Prelude.{◌-◌, Bool, true, false, cond, if◌then◌else◌, Option, Some, None, Result, Ok, Err, IfErr, IsErrAnd}
-use Rattle.witness_check.specs.Forms.{Begun, LineForm, Section, after_first, begun_as, after_rows, blank_rows, both, broken, has_form, guess, one, read_both, read_one, read_rows, rows, value_in, whole, write_rows}
+use Rattle.witness_check.specs.Forms.{Begun, LineForm, Section, after_first, begun_as, blank_rows, both, broken, has_form, guess, one, read_both, read_one, rows, value_in, whole, write_rows}
 use Rattle.witness_check.specs.declared.fault.Refusal.{Refusal}
 use Rattle.witness_check.specs.declared.fault.Refusal.TheVariants.{Bad as badly, NoMemory as no_memory}
 use Rattle.witness_check.specs.Lines.{number_line}

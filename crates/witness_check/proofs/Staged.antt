@@ -15,10 +15,10 @@ use Rattle.witness_check.specs.Between.{After, Refutes}
 use Rattle.witness_check.specs.Checked.{answer_of, bad_line, checked, fault_or, first_bad, first_broken, first_fault, one_later}
 use Rattle.witness_check.specs.Forms.{Begun, LineForm, Section, after_first, after_row, begun_as, blank_rows, both, broken, guess, has_form, one, read_both, read_one, read_rows, rows, rows_fit, whole, write_rows}
 use Rattle.witness_check.specs.Lines.{counted, number_line}
-use Rattle.witness_check.specs.Passing.{Breaks, BreaksAt, CountRefused, LineRead, Lines, Passes, RowsRead, SectionRead, is_between, judged_from}
+use Rattle.witness_check.specs.Passing.{Breaks, BreaksAt, CountRefused, Lines, RowsRead, SectionRead, is_between, judged_from}
 use Rattle.witness_check.specs.Rules.{Rule, each, rule}
 use Rattle.witness_check.proofs.Passed.{section_breaks, section_breaks_faulty, section_faulty, section_passes}
-use Rattle.witness_check.proofs.Prefixes.{take_past, take_within}
+use Rattle.witness_check.proofs.Prefixes.{take_within}
 use Rattle.witness_check.proofs.Reading.{length_written}
 use Rattle.witness_check.proofs.Rows.{rows_section}
 use Rattle.witness_check.proofs.Sections.{IsLineForm}

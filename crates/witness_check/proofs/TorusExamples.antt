@@ -8,7 +8,7 @@ use Rattle.witness_check.specs.declared.checked.Checked.TheVariants.{Bad as bad,
 use Rattle.witness_check.specs.Checked.{checked}
 use Rattle.witness_check.specs.Line.{line}
 use Rattle.witness_check.specs.Meaning.{Certifies}
-use Rattle.witness_check.specs.declared.checked.Reason.TheVariants.{Form as form, Page as page, Limit as limit, Curve as curve, Twist as twist, Basis as basis, Word as word, Drawing as drawing, Final as final, Nice as nice, Generators as generators, Contact as contact, Pivot as pivot, Rank as rank, Homology as homology, Verdict as verdict}
+use Rattle.witness_check.specs.declared.checked.Reason.TheVariants.{Form as form, Page as page, Limit as limit, Curve as curve, Slide as slide, Twist as twist, Basis as basis, Word as word, Drawing as drawing, Finger as finger, Final as final, Nice as nice, Generators as generators, Contact as contact, Pivot as pivot, Rank as rank, Homology as homology, Verdict as verdict}
 use Rattle.witness_check.proofs.ValidLaw.{valid_certifies}
 
 -- the text of some lines, checked
@@ -52,6 +52,10 @@ name_of_an_earlier_curve : check_lines (with_line 6 (codes "curve a B:0:0") toru
 unfolding line digits
 name_of_an_earlier_curve = refl
 
+no_such_side : check_lines (with_line 7 (codes "slides 1") (take 7 torus ++ (codes "slide 9" ∷ drop 7 torus))) ≡ bad 8 slide
+unfolding line digits
+no_such_side = refl
+
 power_nothing : check_lines (with_line 9 (codes "twist a 0") torus) ≡ bad 9 twist
 unfolding line digits
 power_nothing = refl
@@ -75,6 +79,10 @@ crossing_chords = refl
 too_many_fingers : check_lines (with_line 17 (codes "fingers 20001") torus) ≡ bad 17 limit
 unfolding line digits
 too_many_fingers = refl
+
+no_such_segment : check_lines (with_line 18 (codes "finger 0 2 3 3") torus) ≡ bad 18 finger
+unfolding line digits
+no_such_segment = refl
 
 finger_less : check_lines (with_line 17 (codes "fingers 2") (without_line 20 torus)) ≡ bad 20 final
 unfolding line digits

@@ -1,6 +1,6 @@
 -- The lines of the twists.
-use Rattle.std.proofs.Common.{◌≡◌, ℕ, suc, ◌+◌, ◌<◌, ◌^◌, true, List, [], ◌∷◌, ◌++◌, length, codes, Option, Some, None, refl, sym, ◌∙◌, ap, ap₂, subst}
-use Rattle.std.specs.Prelude.{Result, Ok, Err, IfErr, OnOk}
+use Rattle.std.proofs.Common.{◌≡◌, ℕ, suc, ◌+◌, ◌<◌, ◌^◌, true, List, [], ◌∷◌, ◌++◌, length, codes, Option, Some, None, sym, ◌∙◌, ap}
+use Rattle.std.specs.Prelude.{Result, IfErr, OnOk}
 use Rattle.std.specs.Result.{result_unwrap_or}
 use Rattle.page_surface.specs.Labels.{Label}
 use Rattle.curve_paths.specs.declared.named.NamedPath.{NamedPath}
@@ -16,10 +16,10 @@ use Rattle.witness_check.specs.declared.fault.Stop.{Stop}
 use Rattle.witness_check.specs.declared.fault.Stop.TheVariants.{Fault as stopped}
 use Rattle.witness_check.specs.Between.{After, AfterSlides, AfterTwists, HasPageWords, HasSurface, Refutes}
 use Rattle.witness_check.specs.FieldsOn.{twists_fields}
-use Rattle.witness_check.specs.Forms.{Section, both, one, rows}
+use Rattle.witness_check.specs.Forms.{both, one, rows}
 use Rattle.witness_check.specs.Lines.{twist_line, number_line}
 use Rattle.witness_check.specs.Passing.{CountRefused, Lines, RowsRead, SectionRead, is_between}
-use Rattle.witness_check.specs.Rules.{Rule, each, twist_rules, rule}
+use Rattle.witness_check.specs.Rules.{each, twist_rules, rule}
 use Rattle.witness_check.specs.RulesOn.{seams_on_rules, twist_count}
 use Rattle.witness_check.specs.Settling.{Settles}
 use Rattle.witness_check.specs.Stages.{seams_on}

@@ -1,5 +1,5 @@
 -- What is known of a text between the lines of a check.
-use Rattle.std.specs.Prelude.{◌≡◌, ℕ, List, length}
+use Rattle.std.specs.Prelude.{◌≡◌, ℕ, List}
 use Rattle.page_surface.specs.Drawing.{Drawing}
 use Rattle.page_surface.specs.Labels.{Label}
 use Rattle.page_surface.specs.Polygon.{Polygon, arc_count}

@@ -1,5 +1,4 @@
 -- The fields of a certificate, as they are read.
-use Rattle.std.specs.Prelude.{ℕ}
 use Rattle.witness_check.specs.Grammar.{Drawn, Outcome}
 use Rattle.witness_check.specs.Stages.{PolygonsOn, SeamsOn}
 use Rattle.witness_check.specs.declared.fault.Refusal.{Refusal}

@@ -11,7 +11,9 @@ pub struct Certificate {
     pub version: u32,
     /// The labels of the page's polygons.
     pub polygons: Items<Items<Name>>,
+    /// The curves on the page, by their names.
     pub curves: Items<NamedPath>,
+    /// The side of each arc slide, on the polygon that the slides before it leave.
     pub slides: Items<SideNo>,
     /// The twist word, whose first entry is applied first.
     pub twists: Items<NamedTwist>,
@@ -21,19 +23,23 @@ pub struct Certificate {
     pub basis: Items<ArcNo>,
     /// The exits of each strand in the first drawing.
     pub strands: Items<Items<Exit>>,
+    /// The finger moves, each on the drawing that those before it leave.
     pub fingers: Items<Finger>,
     /// The exits of each strand in the last drawing, after all fingers.
     pub finals: Items<Items<Exit>>,
     /// The number of generators of the last drawing.
     pub generators: u32,
-    /// The contact generator, which is the last,
+    /// The contact generator, which is the last.
     pub contact: GenNo,
-    /// and the numbers of its points, arc by arc.
+    /// The numbers of the contact generator's points, arc by arc.
     pub points: Items<u32>,
+    /// The pivots by which every column of the last drawing reduces to nothing, in the order of their columns.
     pub pivots: Items<Pivot>,
+    /// The rank of these columns, as many as the pivots.
     pub rank: u32,
     /// The number of generators less twice the rank.
     pub homology: i32,
+    /// A chain that bounds the contact generator, or a functional that is one there and even on every column.
     pub verdict: Verdict,
 }
 

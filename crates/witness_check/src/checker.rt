@@ -71,10 +71,11 @@ fn answer_of(alloc: Global, text: &[u8]) -> Result<Answer, Refusal>
 /// breaks a rule, counted from 1, with the reason of the first such rule. It takes no account of how the certificate was found: the
 /// fingers need be legal and lead to a nice drawing, and not be those of any strategy.
 ///
-/// The lines are taken in order and each is tried once, so nothing behind the first bad line is looked at. Refuses only for want of
-/// memory. The cost is linear in the text, but for what the lines ask for: the words after each single twist (`monodromy::words_of`),
+/// The lines are taken in order and each is tried once; those of one list, as all fingers, are read up to the first that lacks its
+/// form before they are tried, and nothing behind the list of the first bad line is looked at. Refuses only for want of memory. The
+/// cost is linear in the text, but for what the lines ask for: the words after each single twist (`monodromy::words_of`),
 /// each finger tested and pushed (linear in the exits), the regions and generators of the last drawing, its columns
-/// (`boundary_map::columns`), and the pivots and the verdict (`mod2_rank::Reducers`).
+/// (`boundary_map::columns`), and the pivots and the verdict (`mod2_rank::Reducers`, `mod2_rank::is_verdict`).
 pub fn check(alloc: Global, text: &[u8]) -> Result<Checked, NoMemory>
     requires { length text.now < 2 ^ 32 }
     ensures { IfOk result (λ answer. answer ≡ checked text.now) }

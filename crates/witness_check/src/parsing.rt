@@ -172,7 +172,8 @@ fn read_all(alloc: Global, lines: &mut Lines) -> Result<BookLines, Refusal>
     }
 }
 
-/// The certificate whose text this is; and otherwise `Form` names the first line that lacks its form. Linear in the text.
+/// The certificate whose text this is; and otherwise `Form` names the first line that lacks its form. Of the rules of the lines, which
+/// `check` tries, it tries none. Linear in the text.
 pub fn parse(alloc: Global, text: &[u8]) -> Result<Certificate, ParseRefusal>
     requires { length text.now < 2 ^ 32 }
     ensures ok { IfOk result (λ c. (fits c ≡ true) × (text.now ≡ certificate_text c)) }

@@ -1,4 +1,4 @@
-use Rattle.std.proofs.Common.{◌≡◌, ◌≤◌, ap, length, subst, sym}
+use Rattle.std.proofs.Common.{◌≤◌, length, subst, sym}
 use Rattle.witness_check.proofs.BookStage.{lent_curves}
 use Rattle.witness_check.proofs.HandedOn.{err_of}
 use Rattle.witness_check.proofs.book_stage.surface_stage.Goals as goal

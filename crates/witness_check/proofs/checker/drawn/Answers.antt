@@ -1,5 +1,3 @@
-use Rattle.std.proofs.Common.{List, ℕ}
-use Rattle.witness_check.specs.Between.{AfterBook, AfterVersion}
 use Rattle.witness_check.proofs.HandedOn.{err_on, lent_words, ok_on}
 use Rattle.witness_check.proofs.checker.drawn.Goals as goal
 

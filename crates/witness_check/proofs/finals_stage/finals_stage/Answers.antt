@@ -1,5 +1,5 @@
 use Rattle.std.proofs.Common.{◌/◌, ℕ, None, Some, ap, ◌∙◌}
-use Rattle.page_surface.specs.Polygon.{Polygon, arc_count, sides}
+use Rattle.page_surface.specs.Polygon.{arc_count, sides}
 use Rattle.witness_check.proofs.HandedOn.{err_on, if_ok, of_ok, ok_on}
 use Rattle.witness_check.proofs.Staged.{rows_count}
 use Rattle.witness_check.proofs.FinalsStage.{finals_broken, finals_few, finals_passed, finals_refuted, lent_finals, shape}

@@ -1,4 +1,3 @@
-use Rattle.std.proofs.Common.{subst, ◌≤◌, length}
 use Rattle.witness_check.specs.Lines.{finger_line}
 use Rattle.witness_check.proofs.FingersStage.{fingers_passed, fingers_refuted, fingers_uncounted}
 use Rattle.witness_check.proofs.HandedOn.{err_of, err_on, if_ok, lent_rows, of_ok, ok_on}

@@ -1,4 +1,3 @@
-use Rattle.std.proofs.Common.{◌≡◌, ◌≤◌, length, subst, sym}
 use Rattle.witness_check.specs.Lines.{twist_line}
 use Rattle.witness_check.proofs.TwistsStage.{twists_passed, twists_refuted, twists_uncounted}
 use Rattle.witness_check.proofs.HandedOn.{err_of, err_on, if_ok, lent_rows, of_ok, ok_on}
